@@ -1,0 +1,11 @@
+pub mod Every
+pub mod Bytes
+pub mod Xor
+pub mod Linear
+pub mod Field
+pub mod Array
+pub mod Fill
+pub mod Substitution
+pub mod Mixing
+pub mod Rounds
+pub mod Marked

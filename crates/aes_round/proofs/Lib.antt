@@ -1,0 +1,2 @@
+-- What is proved of the definitions in specs/, apart from any function: the crates above cite it.
+pub mod Laws

@@ -1,5 +1,5 @@
 -- The 4 by 4 array of entries of w bytes, by its entries. Assumes nothing.
-use mathlib.Core.Path.{_≡_, sym, ap, ap₂, _∙_, subst}
+use mathlib.Core.Path.{_≡_, refl, sym, ap, ap₂, _∙_, subst}
 use mathlib.Core.List.{List}
 use Prim.Native.Nat.{ℕ, zero, suc, _+_, _*_, _/_, _%_, _<_, _≤_}
 use native.Mathlib.Nat.{add-zero, div-add-mod, div-eq-of-lt, div-lt-iff-lt-mul, le-trans, mod-eq-of-lt, mod-lt, mul-add-div, mul-add-mod-self-left, mul-comm, mul-le-mul-left, mul-suc}
@@ -23,6 +23,10 @@ module _ (w : ℕ) where
 
   byte-of : (e b : ℕ) → b < w → (w * e + b) % w ≡ b
   byte-of e b h = mul-add-mod-self-left w e b ∙ mod-eq-of-lt h
+
+  pub entry-is : (s : List ℕ) (e b : ℕ) → entry w s e b ≡ getD s (w * e + b) 0
+  unfolding entry
+  entry-is s e b = refl
 
   pub length-array : (f : ℕ → ℕ → ℕ) → length (array w f) ≡ 16 * w
   unfolding array
@@ -51,6 +55,16 @@ module _ (w : ℕ) where
       is-tab (16 * w) l _ e
       (λ k lt. ap (λ (m : ℕ). getD l m 0) (sym (div-add-mod k w)) ∙ h (k / w) (k % w) (entry-lt k lt) (byte-lt k lt))
 
+  -- two lists with the same entries
+  pub same-entries : (l m : List ℕ) → length l ≡ 16 * w → length m ≡ 16 * w → ((e b : ℕ) → e < 16 → b < w → entry w l e b ≡ entry w m e b) → l ≡ m
+  same-entries l m hl hm h = is-array l (entry w m) hl h ∙ sym (is-array m (entry w m) hm (λ e b he hb. refl))
+
+  -- bytes in a row, as an array
+  pub tab-array : (f : ℕ → ℕ) (g : ℕ → ℕ → ℕ) → ((e b : ℕ) → e < 16 → b < w → f (w * e + b) ≡ g e b) → tab (16 * w) f ≡ array w g
+  tab-array f g h =
+      is-array (tab (16 * w) f) g (length-tab (16 * w) f)
+      (λ e b he hb. entry-is _ e b ∙ getD-tab (16 * w) f (w * e + b) (place-lt e b he hb) ∙ h e b he hb)
+
   pub array-ext : (f g : ℕ → ℕ → ℕ) → ((e b : ℕ) → e < 16 → b < w → f e b ≡ g e b) → array w f ≡ array w g
   array-ext f g h = is-array (array w f) g (length-array f) (λ e b he hb. entry-array f e b he hb ∙ h e b he hb)
 
@@ -72,6 +86,10 @@ module _ (w : ℕ) where
   xor-array f g = xor-tab (16 * w) _ _
 
   -- ---- columns
+
+  pub length-column : (s : List ℕ) (c b : ℕ) → length (column w s c b) ≡ 4
+  unfolding column
+  length-column s c b = length-tab 4 _
 
   pub getD-column : (s : List ℕ) (c b i : ℕ) → i < 4 → getD (column w s c b) i 0 ≡ entry w s (4 * c + i) b
   unfolding column

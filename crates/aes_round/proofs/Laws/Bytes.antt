@@ -28,16 +28,18 @@ pub getD-tab : (n : ℕ) (f : ℕ → ℕ) (k : ℕ) → k < n → getD (tab n f
 unfolding tab
 getD-tab n f k h = getD-tabFrom 0 n f k h ∙ ap f (zero-add k)
 
+-- two lists of n numbers are equal by their elements
+pub same-list : (n : ℕ) (l m : List ℕ) → length l ≡ n → length m ≡ n → ((k : ℕ) → k < n → getD l k 0 ≡ getD m k 0) → l ≡ m
+same-list n l m hl hm h = ext-getD 0 l m (hl ∙ sym hm) (λ k lt. h k (subst (λ (i : ℕ). k < i) hl lt))
+
 -- a list of n numbers is the tab of them
 pub is-tab : (n : ℕ) (l : List ℕ) (f : ℕ → ℕ) → length l ≡ n → ((k : ℕ) → k < n → getD l k 0 ≡ f k) → l ≡ tab n f
-is-tab n l f e h =
-    ext-getD 0 l (tab n f) (e ∙ sym (length-tab n f))
-    (λ k lt. let l′ : k < n = subst (λ (m : ℕ). k < m) e lt in h k l′ ∙ sym (getD-tab n f k l′))
+is-tab n l f e h = same-list n l (tab n f) e (length-tab n f) (λ k lt. h k lt ∙ sym (getD-tab n f k lt))
 
 pub tab-ext : (n : ℕ) (f g : ℕ → ℕ) → ((k : ℕ) → k < n → f k ≡ g k) → tab n f ≡ tab n g
 tab-ext n f g h = is-tab n (tab n f) g (length-tab n f) (λ k l. getD-tab n f k l ∙ h k l)
 
-lt-or-le : (k n : ℕ) → (k < n) ⊎ (n ≤ k)
+pub lt-or-le : (k n : ℕ) → (k < n) ⊎ (n ≤ k)
 lt-or-le k zero = inr (omega arith)
 lt-or-le zero (suc n) = inl (omega arith)
 lt-or-le (suc k) (suc n) = ⊎-elim (λ p. inl (omega arith)) (λ p. inr (omega arith)) (lt-or-le k n)

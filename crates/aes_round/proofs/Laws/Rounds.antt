@@ -13,9 +13,9 @@ use Rattle.aes_round.specs.Mixing.{backward, forward, mixColumn}
 use Rattle.aes_round.specs.Substitution.{Table, subByte, subByteBack}
 use Rattle.aes_round.specs.Rounds.{addRoundKey, aesRound, aesRoundBack, mixColumns, shiftBackFrom, shiftFrom, shiftRows, shiftRowsBack, subBytes, subBytesBack}
 use Rattle.aes_round.proofs.Laws.Every.{agree, below}
-use Rattle.aes_round.proofs.Laws.Bytes.{getD-tab, is-tab, tab-bytes, tab-ext}
-use Rattle.aes_round.proofs.Laws.Xor.{getD-xor, xor-bytes, xor-bytes-twice}
-use Rattle.aes_round.proofs.Laws.Array.{array-bytes, array-ext, column-bytes, column-xor, entry-array, entry-byte, entry-xor, getD-column, is-array, xor-array}
+use Rattle.aes_round.proofs.Laws.Bytes.{getD-tab, is-tab, length-tab, tab-bytes, tab-ext}
+use Rattle.aes_round.proofs.Laws.Xor.{getD-xor, length-xor, xor-bytes, xor-bytes-twice}
+use Rattle.aes_round.proofs.Laws.Array.{array-bytes, array-ext, column-bytes, column-xor, entry-array, entry-byte, entry-xor, getD-column, is-array, length-array, xor-array}
 use Rattle.aes_round.proofs.Laws.Substitution.{sub-back-lt, sub-back-undone, sub-lt, sub-undone, table-at}
 use Rattle.aes_round.proofs.Laws.Mixing.{backward-bytes, forward-bytes, length-mix, mix-back-undone, mix-bytes, mix-undone, mix-xor}
 
@@ -71,6 +71,14 @@ module _ (w : ℕ) where
   unfolding shiftRowsBack
   entry-shift-back s e b he hb = entry-array w _ e b he hb
 
+  pub length-shift : (s : List ℕ) → length (shiftRows w s) ≡ 16 * w
+  unfolding shiftRows
+  length-shift s = length-array w _
+
+  pub length-shift-back : (s : List ℕ) → length (shiftRowsBack w s) ≡ 16 * w
+  unfolding shiftRowsBack
+  length-shift-back s = length-array w _
+
   pub shift-bytes : (s : List ℕ) → Bytes (16 * w) s → Bytes (16 * w) (shiftRows w s)
   unfolding shiftRows
   shift-bytes s B = array-bytes w _ (λ e b he hb. entry-byte w s B (shiftFrom e) b)
@@ -97,6 +105,10 @@ module _ (w : ℕ) where
   pub entry-mix : (m s : List ℕ) (e b : ℕ) → e < 16 → b < w → entry w (mixColumns w m s) e b ≡ getD (mixColumn m (column w s (e / 4) b)) (e % 4) 0
   unfolding mixColumns
   entry-mix m s e b he hb = entry-array w _ e b he hb
+
+  pub length-mix-columns : (m s : List ℕ) → length (mixColumns w m s) ≡ 16 * w
+  unfolding mixColumns
+  length-mix-columns m s = length-array w _
 
   pub mix-columns-bytes : (m s : List ℕ) → Bytes 16 m → Bytes (16 * w) s → Bytes (16 * w) (mixColumns w m s)
   unfolding mixColumns
@@ -155,6 +167,14 @@ unfolding addRoundKey
 key-undone = xor-bytes-twice 16
 
 -- ---- the round
+
+pub length-round : (s k : List ℕ) → length (aesRound s k) ≡ 16
+unfolding aesRound addRoundKey
+length-round s k = length-xor 16 _ k
+
+pub length-round-back : (s k : List ℕ) → length (aesRoundBack s k) ≡ 16
+unfolding aesRoundBack subBytesBack
+length-round-back s k = length-tab 16 _
 
 pub round-bytes : (s k : List ℕ) → Bytes 16 s → Bytes 16 k → Bytes 16 (aesRound s k)
 unfolding aesRound

@@ -12,7 +12,7 @@ use lib.Bits as bits
 use lib.ListN.{length, getD}
 use Rattle.aes_round.specs.Bytes.{Bytes, tab, xor, xorBytes}
 use Rattle.aes_round.proofs.Laws.Every.{every, below}
-use Rattle.aes_round.proofs.Laws.Bytes.{getD-tab, is-tab, tab-bytes, tab-ext}
+use Rattle.aes_round.proofs.Laws.Bytes.{getD-tab, is-tab, length-tab, tab-bytes, tab-ext}
 
 -- associativity at one digit, by its eight cases
 digit : (x y z : ℕ) → x < 2 → y < 2 → z < 2 → differ (bitXor x y) z ≡ differ x (bitXor y z)
@@ -32,6 +32,11 @@ assoc a =
     (digit (n % 2) (b % 2) (c % 2) (mod-lt n (lit< tt)) (mod-lt b (lit< tt)) (mod-lt c (lit< tt)))
     ∙ sym (ap₂ (λ (x y : ℕ). bitXor (n / 2) x * 2 + differ (n % 2) y) (bits.xor-shr b c 1) (bits.xor-mod b c 1))
     ∙ sym (bits.xor-step n (bitXor b c))) a
+
+-- what the code's `^` computes
+pub code-xor : (a b : ℕ) → bitXor a b ≡ xor a b
+unfolding xor
+code-xor a b = refl
 
 pub xor-assoc : (a b c : ℕ) → xor (xor a b) c ≡ xor a (xor b c)
 unfolding xor
@@ -113,6 +118,14 @@ unfolding xorBytes
 xor-tab n f g = tab-ext n _ _ (λ k h. ap₂ xor (getD-tab n f k h) (getD-tab n g k h))
 
 module _ (n : ℕ) (a b : List ℕ) where
+  pub xor-is-tab : tab n (λ k. xor (getD a k 0) (getD b k 0)) ≡ xorBytes n a b
+  unfolding xorBytes
+  xor-is-tab = refl
+
+  pub length-xor : length (xorBytes n a b) ≡ n
+  unfolding xorBytes
+  length-xor = length-tab n _
+
   pub getD-xor : (k : ℕ) → k < n → getD (xorBytes n a b) k 0 ≡ xor (getD a k 0) (getD b k 0)
   unfolding xorBytes
   getD-xor k h = getD-tab n _ k h

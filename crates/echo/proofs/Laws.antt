@@ -1,0 +1,9 @@
+pub mod Joined
+pub mod Numbers
+pub mod Placed
+pub mod Refusals
+pub mod Square
+pub mod Words
+pub mod Columns
+pub mod Compression
+pub mod Marked

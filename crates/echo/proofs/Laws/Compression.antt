@@ -1,0 +1,126 @@
+-- Folds and BIG.Final. Assumes nothing.
+use mathlib.Core.Path.{_≡_, refl, sym, ap, ap₂, _∙_, subst}
+use mathlib.Core.Logic.{⊎-elim}
+use mathlib.Core.List.{List, _++_}
+use Prim.Native.Nat.{ℕ, zero, suc, _+_, _*_, _/_, _-_, _<_, _≤_}
+use native.Mathlib.Nat.{add-comm, add-zero, mul-comm, mul-div-cancel-left, mul-le-mul-left, mul-suc, mul-zero, not-suc-le-zero, zero-add}
+use native.Mathlib.Numerals.{add-one}
+use native.Mathlib.Omega.{arith}
+use lib.ListN.{drop, getD, length, length-append, take}
+use lib.Seq.{getD-drop, getD-take}
+use Rattle.aes_round.specs.Bytes.{Bytes, tab, xor, xorBytes}
+use Rattle.aes_round.proofs.Laws.Bytes.{getD-tab, length-tab, lt-or-le, same-list, tab-ext}
+use Rattle.aes_round.proofs.Laws.Xor.{getD-xor, length-xor, xor-assoc, xor-lt, xor-zero-l, xor-zero-r}
+use Rattle.echo.specs.Compression.{bigFinal, compress, fold, xorSum}
+use Rattle.echo.specs.Placed.{Placed}
+use Rattle.echo.specs.Square.{rounds}
+use Rattle.echo.proofs.Laws.Joined.{first-part, second-part}
+
+-- ---- the loop over parts
+
+-- part j of n ends within them all
+pub part-end : (c j n : ℕ) → j < n → c * j + c ≤ c * n
+part-end c j n h = omega (arith, mul-suc c j, mul-le-mul-left c h)
+
+module _ (c : ℕ) (v₀ src : List ℕ) where
+  -- v with the first j parts of src xored in
+  pub parts-in : ℕ → List ℕ
+  parts-in j = xorBytes c v₀ (tab c (λ k. xorSum j (λ i. getD src (c * i + k) 0)))
+
+  pub no-parts : length v₀ ≡ c → v₀ ≡ parts-in 0
+  unfolding parts-in
+  no-parts l =
+      same-list c v₀ _ l (length-xor c v₀ _) (λ k h. sym (getD-xor c v₀ _ k h ∙ ap (xor (getD v₀ k 0)) (getD-tab c _ k h) ∙ xor-zero-r _))
+
+  pub next-part-in : (j : ℕ) (v p : List ℕ) → v ≡ parts-in j → ((k : ℕ) → k < c → getD p k 0 ≡ getD src (c * j + k) 0) → xorBytes c v p ≡ parts-in (j + 1)
+  unfolding parts-in
+  next-part-in j v p e h =
+      same-list c _ _ (length-xor c v p) (length-xor c v₀ _)
+      (λ k hk.
+      getD-xor c v p k hk
+      ∙ ap₂ xor (ap (λ (l : List ℕ). getD l k 0) e ∙ summed j k hk) (h k hk)
+      ∙ xor-assoc (getD v₀ k 0) _ _
+      ∙ ap (λ (n : ℕ). xor (getD v₀ k 0) (xorSum n (λ i. getD src (c * i + k) 0))) (sym (add-one j))
+      ∙ sym (summed (j + 1) k hk))
+    where
+      summed : (n k : ℕ) → k < c → getD (xorBytes c v₀ (tab c (λ k. xorSum n (λ i. getD src (c * i + k) 0)))) k 0 ≡ xor (getD v₀ k 0) (xorSum n (λ i. getD src (c * i + k) 0))
+      summed n k hk = getD-xor c v₀ _ k hk ∙ ap (xor (getD v₀ k 0)) (getD-tab c _ k hk)
+
+  pub all-parts : (n : ℕ) → 0 < c → length src ≡ c * n → parts-in n ≡ xorBytes c v₀ (fold c src)
+  unfolding parts-in fold
+  all-parts n h l =
+      ap (xorBytes c v₀)
+      (tab-ext c _ _ (λ k hk. ap (λ (m : ℕ). xorSum m (λ i. getD src (c * i + k) 0)) (sym (ap (λ (x : ℕ). x / c) l ∙ mul-div-cancel-left n h))))
+
+-- ---- the fold of a loaded square
+
+-- a sum by its first term
+xorSum-first : (n : ℕ) (f : ℕ → ℕ) → xorSum (suc n) f ≡ xor (f 0) (xorSum n (λ i. f (suc i)))
+xorSum-first zero f = xor-zero-l (f 0) ∙ sym (xor-zero-r (f 0))
+xorSum-first (suc n) f = ap (λ (x : ℕ). xor x (f (suc n))) (xorSum-first n f) ∙ xor-assoc (f 0) _ _
+
+-- the chaining variable is the first part of the square that it is loaded into
+pub fold-loaded : (c : ℕ) (v m : List ℕ) (n : ℕ) → 0 < c → length v ≡ c → length m ≡ c * n → fold c (v ++ m) ≡ xorBytes c v (fold c m)
+unfolding fold
+fold-loaded c v m n h lv lm =
+    same-list c _ _ (length-tab c _) (length-xor c v _)
+    (λ k hk.
+    getD-tab c _ k hk
+    ∙ ap (λ (i : ℕ). xorSum i (λ j. getD (v ++ m) (c * j + k) 0)) parts
+    ∙ xorSum-first n (λ j. getD (v ++ m) (c * j + k) 0)
+    ∙ ap₂ xor
+    (ap (λ (i : ℕ). getD (v ++ m) i 0) (ap (λ (x : ℕ). x + k) (mul-zero c) ∙ zero-add k) ∙ first-part c v m lv k hk)
+    (sum-ext n _ _ (λ j. ap (λ (i : ℕ). getD (v ++ m) i 0) (behind j k) ∙ second-part c v m lv (c * j + k)) ∙ ap (λ (i : ℕ). xorSum i (λ j. getD m (c * j + k) 0)) (sym (ap (λ (x : ℕ). x / c) lm ∙ mul-div-cancel-left n h)))
+    ∙ sym (getD-xor c v _ k hk ∙ ap (xor (getD v k 0)) (getD-tab c _ k hk)))
+  where
+    parts : length (v ++ m) / c ≡ suc n
+    parts =
+        ap (λ (x : ℕ). x / c) (length-append v m ∙ ap₂ (λ (x y : ℕ). x + y) lv lm ∙ add-comm c (c * n) ∙ sym (mul-suc c n))
+        ∙ mul-div-cancel-left (suc n) h
+
+    behind : (j k : ℕ) → c * suc j + k ≡ c + (c * j + k)
+    behind j k = omega (arith, mul-suc c j)
+
+    sum-ext : (n : ℕ) (f g : ℕ → ℕ) → ((i : ℕ) → f i ≡ g i) → xorSum n f ≡ xorSum n g
+    sum-ext zero f g e = refl
+    sum-ext (suc n) f g e = ap₂ xor (sum-ext n f g e) (e n)
+
+-- ---- what the code does
+
+-- a square of 256 bytes in parts of c bytes: how many the block has
+pub some-parts : (c p : ℕ) → 256 ≡ c * p → 0 < p
+some-parts c zero e = absurd (no (e ∙ mul-zero c))
+  where
+    no : _≡_ {A = ℕ} 256 0 → ⊥
+    no e = omega arith
+some-parts c (suc p) e = omega arith
+
+pub block-parts : (c b p : ℕ) → c + b ≡ 256 → 256 ≡ c * p → b ≡ c * (p - 1)
+block-parts c b zero h e = absurd (not-suc-le-zero (some-parts c zero e))
+block-parts c b (suc p) h e = omega (arith, mul-suc c p, ap (λ (n : ℕ). c * n) (less p))
+  where
+    less : (p : ℕ) → suc p - 1 ≡ p
+    less p = omega arith
+
+-- the chaining variable and the block, copied into a square one behind the other
+pub loaded : (z v m s t : List ℕ) → length z ≡ 256 → length v + length m ≡ 256 → Placed z 0 v (length v) s → Placed s (length v) m (length m) t → t ≡ v ++ m
+loaded z v m s t lz l P Q =
+    same-list 256 t (v ++ m) (Q .long ∙ P .long ∙ lz) (length-append v m ∙ l)
+    (λ k lt.
+    ⊎-elim (λ (h : k < length v). Q .before k h ∙ ap (λ (i : ℕ). getD s i 0) (sym (zero-add k)) ∙ P .inside k h ∙ sym (first-part (length v) v m refl k h))
+    (λ (g : length v ≤ k).
+    ap (λ (i : ℕ). getD t i 0) (sym (back k g)) ∙ Q .inside (k - length v) (left k g lt) ∙ sym (second-part (length v) v m refl (k - length v)) ∙ ap (λ (i : ℕ). getD (v ++ m) i 0) (back k g))
+    (lt-or-le k (length v)))
+  where
+    back : (k : ℕ) → length v ≤ k → length v + (k - length v) ≡ k
+    back k g = omega arith
+
+    left : (k : ℕ) → length v ≤ k → k < 256 → k - length v < length m
+    left k g lt = omega arith
+
+-- the two folds, one after the other
+pub compressed : (n : ℕ) (key : ℕ → List ℕ) (salt v m w r t : List ℕ) → length r ≡ length v → r ≡ xorBytes (length v) v (fold (length v) m) → t ≡ xorBytes (length r) r (fold (length r) w)
+    → w ≡ rounds n key salt (v ++ m) → t ≡ compress (length v) n key salt v m
+unfolding compress bigFinal
+compressed n key salt v m w r t l p q e =
+    q ∙ ap (λ (k : ℕ). xorBytes k r (fold k w)) l ∙ ap₂ (λ (x y : List ℕ). xorBytes (length v) x (fold (length v) y)) p e

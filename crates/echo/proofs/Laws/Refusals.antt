@@ -1,0 +1,145 @@
+-- Each refusal from the tests that lead to it, and what no refusal means. Assumes nothing.
+use mathlib.Core.Path.{_≡_, refl, sym, ap, subst}
+use mathlib.Core.Bool.{Bool, true, false, not, _&&_, _||_, or-false, true≢false}
+use mathlib.Core.Logic.{_⊎_, inl, inr, ⊎-elim}
+use mathlib.Core.List.{List, [], _∷_}
+use Prim.Native.Nat.{ℕ, zero, suc, _+_, _*_, _/_, _-_, _^_, _<_, _≤_}
+use native.Mathlib.Omega.{arith}
+use borrow.Author.Tests.{eq-eqb, eqb-true, le-ltb, lt-ltb, ltb-false, ne-eqb, not-false}
+use lib.Dec.{eqb, ltb}
+use Rattle.echo.specs.Refusals.{Refusal, _when_, firstOf, unless}
+use Rattle.echo.specs.Routines.{compressRefusal, roundCount, roundsRefusal, sizesFit}
+
+-- with a chaining variable of 64 bytes the block decides
+pub sizes-64 : (c b : ℕ) → c ≡ 64 → eqb b 192 ≡ sizesFit c b
+sizes-64 c b e = subst (λ (n : ℕ). eqb b 192 ≡ sizesFit n b) (sym e) (sym (or-false (eqb b 192)))
+
+-- ---- rounds
+
+module _ (square count counter salt : ℕ) where
+  pub rounds-2 : (salt ≡ 16 → ⊥) → 2 ≡ roundsRefusal square count counter salt
+  unfolding roundsRefusal
+  rounds-2 s = simp (ne-eqb salt 16 s)
+
+  module _ (s : salt ≡ 16) where
+    pub rounds-6-square : (square ≡ 256 → ⊥) → 6 ≡ roundsRefusal square count counter salt
+    unfolding roundsRefusal
+    rounds-6-square q = simp (eq-eqb salt 16 s, ne-eqb square 256 q)
+
+    module _ (q : square ≡ 256) where
+      pub rounds-6-count : (eqb count 8 || eqb count 10) ≡ false → 6 ≡ roundsRefusal square count counter salt
+      unfolding roundsRefusal
+      rounds-6-count n = simp (eq-eqb salt 16 s, eq-eqb square 256 q, n)
+
+      module _ (n : (eqb count 8 || eqb count 10) ≡ true) where
+        pub rounds-7 : 2 ^ 64 - 161 < counter → 7 ≡ roundsRefusal square count counter salt
+        unfolding roundsRefusal
+        rounds-7 k = simp (eq-eqb salt 16 s, eq-eqb square 256 q, n, lt-ltb (2 ^ 64 - 161) counter k)
+
+        pub rounds-0 : counter ≤ 2 ^ 64 - 161 → 0 ≡ roundsRefusal square count counter salt
+        unfolding roundsRefusal
+        rounds-0 k = simp (eq-eqb salt 16 s, eq-eqb square 256 q, n, le-ltb (2 ^ 64 - 161) counter k)
+
+-- ---- compression
+
+module _ (chaining block counter salt : ℕ) where
+  pub compress-2 : (salt ≡ 16 → ⊥) → 2 ≡ compressRefusal chaining block counter salt
+  unfolding compressRefusal
+  compress-2 s = simp (ne-eqb salt 16 s)
+
+  module _ (s : salt ≡ 16) where
+    pub compress-6 : sizesFit chaining block ≡ false → 6 ≡ compressRefusal chaining block counter salt
+    unfolding compressRefusal
+    compress-6 n = simp (eq-eqb salt 16 s, n)
+
+    module _ (n : sizesFit chaining block ≡ true) where
+      pub compress-7 : 2 ^ 64 - 161 < counter → 7 ≡ compressRefusal chaining block counter salt
+      unfolding compressRefusal
+      compress-7 k = simp (eq-eqb salt 16 s, n, lt-ltb (2 ^ 64 - 161) counter k)
+
+      pub compress-0 : counter ≤ 2 ^ 64 - 161 → 0 ≡ compressRefusal chaining block counter salt
+      unfolding compressRefusal
+      compress-0 k = simp (eq-eqb salt 16 s, n, le-ltb (2 ^ 64 - 161) counter k)
+
+-- ---- what no refusal means
+
+none-first : (n : ℕ) (b : Bool) (rest : List Refusal) → (n ≡ 0 → ⊥) → firstOf ((n when b) ∷ rest) ≡ 0 → (b ≡ false) × (firstOf rest ≡ 0)
+none-first n true rest h e = absurd (h e)
+none-first n false rest h e = (refl, e)
+
+neither : (a b : Bool) → (a || b) ≡ false → (a ≡ false) × (b ≡ false)
+neither true b e = absurd (true≢false e)
+neither false b e = (refl, e)
+
+one-of : (a b : Bool) (m n x : ℕ) → eqb x m ≡ a → eqb x n ≡ b → (a || b) ≡ true → (x ≡ m) ⊎ (x ≡ n)
+one-of true b m n x p q e = inl (eqb-true x m p)
+one-of false true m n x p q e = inr (eqb-true x n q)
+one-of false false m n x p q e = absurd (true≢false (sym e))
+
+pub record RoundsFit (square count counter salt : ℕ) : Type 0 where
+  pub salt-fits : salt ≡ 16
+  pub square-fits : square ≡ 256
+  pub count-fits : (count ≡ 8) ⊎ (count ≡ 10)
+  pub counter-fits : counter ≤ 2 ^ 64 - 161
+
+pub rounds-fit : (square count counter salt : ℕ) → roundsRefusal square count counter salt ≡ 0 → RoundsFit square count counter salt
+unfolding roundsRefusal
+rounds-fit square count counter salt e =
+    let fit = not (eqb square 256) || not (eqb count 8 || eqb count 10) in
+    let high = ltb (2 ^ 64 - 161) counter in
+    let a = none-first 2 (not (eqb salt 16)) ((6 when fit) ∷ (7 when high) ∷ []) (λ z. omega arith) e in
+    let b = none-first 6 fit ((7 when high) ∷ []) (λ z. omega arith) (a .1) in
+    let c = none-first 7 high [] (λ z. omega arith) (b .1) in
+    let d = neither (not (eqb square 256)) (not (eqb count 8 || eqb count 10)) (b .0) in
+    record {
+      salt-fits = eqb-true salt 16 (not-false (eqb salt 16) (a .0));
+      square-fits = eqb-true square 256 (not-false (eqb square 256) (d .0));
+      count-fits = one-of (eqb count 8) (eqb count 10) 8 10 count refl refl (not-false (eqb count 8 || eqb count 10) (d .1));
+      counter-fits = ltb-false (2 ^ 64 - 161) counter (c .0);
+    }
+
+-- the counters of all words fit
+pub counters-fit : {square count counter salt : ℕ} → RoundsFit square count counter salt → counter + 16 * count ≤ 2 ^ 64
+counters-fit F = ⊎-elim (λ e. omega arith) (λ e. omega arith) (F .count-fits)
+
+pub kept : {A : Type 0} (n : ℕ) (a b : A) → (n ≡ 0 → ⊥) → unless n a b ≡ b
+kept zero a b h = absurd (h refl)
+kept (suc n) a b h = refl
+
+pub done : {A : Type 0} (n : ℕ) (a b : A) → n ≡ 0 → unless n a b ≡ a
+done n a b e = ap (λ (k : ℕ). unless k a b) e
+
+-- sizes that fit, and what compression needs of them
+pub sizes-fit : (c b : ℕ) → sizesFit c b ≡ true → ((c ≡ 64) × (b ≡ 192)) ⊎ ((c ≡ 128) × (b ≡ 128))
+sizes-fit c b e = short (eqb c 64) (eqb b 192) (eqb c 128) (eqb b 128) refl refl refl refl e
+  where
+    long : (p q : Bool) → eqb c 128 ≡ p → eqb b 128 ≡ q → (p && q) ≡ true → ((c ≡ 64) × (b ≡ 192)) ⊎ ((c ≡ 128) × (b ≡ 128))
+    long true true p q e = inr (eqb-true c 128 p, eqb-true b 128 q)
+    long true false p q e = absurd (true≢false (sym e))
+    long false q′ p q e = absurd (true≢false (sym e))
+
+    short : (p q r s : Bool) → eqb c 64 ≡ p → eqb b 192 ≡ q → eqb c 128 ≡ r → eqb b 128 ≡ s → (p && q || r && s) ≡ true → ((c ≡ 64) × (b ≡ 192)) ⊎ ((c ≡ 128) × (b ≡ 128))
+    short true true r s p q u v e = inl (eqb-true c 64 p, eqb-true b 192 q)
+    short true false r s p q u v e = long r s u v e
+    short false q′ r s p q u v e = long r s u v e
+
+pub record CompressFit (chaining block counter salt : ℕ) : Type 0 where
+  pub salt-fits : salt ≡ 16
+  pub some : 0 < chaining
+  pub square-fits : chaining + block ≡ 256
+  pub parts-fit : 256 ≡ chaining * (256 / chaining)
+  pub counters-fit : counter + 16 * roundCount chaining ≤ 2 ^ 64
+
+pub compress-fit : (chaining block counter salt : ℕ) → compressRefusal chaining block counter salt ≡ 0 → CompressFit chaining block counter salt
+unfolding compressRefusal
+compress-fit chaining block counter salt e =
+    let high = ltb (2 ^ 64 - 161) counter in
+    let a = none-first 2 (not (eqb salt 16)) ((6 when not (sizesFit chaining block)) ∷ (7 when high) ∷ []) (λ z. omega arith) e in
+    let b = none-first 6 (not (sizesFit chaining block)) ((7 when high) ∷ []) (λ z. omega arith) (a .1) in
+    let c = none-first 7 high [] (λ z. omega arith) (b .1) in
+    let k : counter ≤ 2 ^ 64 - 161 = ltb-false (2 ^ 64 - 161) counter (c .0) in
+    let s : salt ≡ 16 = eqb-true salt 16 (not-false (eqb salt 16) (a .0)) in
+    ⊎-elim
+    (λ (p : (chaining ≡ 64) × (block ≡ 192)). subst (λ (n : ℕ). CompressFit n block counter salt) (sym (p .0)) (record { salt-fits = s; some = omega arith; square-fits = omega arith; parts-fit = refl; counters-fit = omega arith }))
+    (λ (p : (chaining ≡ 128) × (block ≡ 128)). subst (λ (n : ℕ). CompressFit n block counter salt) (sym (p .0)) (record { salt-fits = s; some = omega arith; square-fits = omega arith; parts-fit = refl; counters-fit = omega arith }))
+    (sizes-fit chaining block (not-false (sizesFit chaining block) (b .0)))

@@ -1,0 +1,168 @@
+-- The steps of a round on the square: results are squares again, the ways back undo, and row shift and column mix go through xor.
+-- Assumes nothing.
+use mathlib.Core.Path.{_≡_, refl, sym, ap, _∙_, subst}
+use mathlib.Core.List.{List, _++_}
+use Prim.Native.Nat.{ℕ, zero, suc, _+_, _*_, _/_, _%_, _^_, _<_, _≤_}
+use native.Mathlib.Nat.{add-assoc}
+use native.Mathlib.Numerals.{add-one}
+use native.Mathlib.Omega.{arith}
+use lib.Dec.{lit<}
+use lib.ListN.{getD, length, replicate, length-append}
+use Rattle.aes_round.specs.Array.{array, entry}
+use Rattle.aes_round.specs.Bytes.{Bytes, tab, xorBytes}
+use Rattle.aes_round.specs.Mixing.{backward, forward}
+use Rattle.aes_round.specs.Rounds.{aesRound, aesRoundBack}
+use Rattle.aes_round.proofs.Laws.Array.{array-bytes, array-ext, entry-array, entry-byte, is-array}
+use Rattle.aes_round.proofs.Laws.Bytes.{getD-tab, is-tab, length-tab, tab-bytes}
+use Rattle.aes_round.proofs.Laws.Mixing.{backward-bytes, forward-bytes}
+use Rattle.aes_round.proofs.Laws.Rounds.{length-round, length-round-back, mix-columns-back-undone, mix-columns-bytes, mix-columns-undone, mix-columns-xor, round-back-bytes, round-back-undone, round-bytes, round-undone, shift-back-bytes, shift-back-undone, shift-bytes, shift-undone, shift-xor}
+use Rattle.echo.specs.Square.{bigMixColumns, bigMixColumnsBack, bigRound, bigRoundBack, bigShiftRows, bigShiftRowsBack, bigSubWords, bigSubWordsBack, counterKey, keysFrom, rounds, roundsBack, word}
+
+-- the subkeys are words
+abbrev pub Keys : (ℕ → List ℕ) → Type 0
+Keys key = (number : ℕ) → Bytes 16 (key number)
+
+-- ---- words
+
+pub getD-word : (s : List ℕ) (i b : ℕ) → b < 16 → getD (word s i) b 0 ≡ entry 16 s i b
+unfolding word
+getD-word s i b h = getD-tab 16 _ b h
+
+pub word-bytes : (s : List ℕ) (i : ℕ) → Bytes 256 s → Bytes 16 (word s i)
+unfolding word
+word-bytes s i S = tab-bytes 16 _ (λ b h. entry-byte 16 s S i b)
+
+-- words put together, and one of them taken out again
+word-array : (f : ℕ → List ℕ) (i : ℕ) → i < 16 → length (f i) ≡ 16 → word (array 16 (λ i b. getD (f i) b 0)) i ≡ f i
+unfolding word
+word-array f i h l = sym (is-tab 16 (f i) _ l (λ b hb. sym (entry-array 16 _ i b h hb)))
+
+-- words rewritten one by one by f, and back by g
+words-undone : (f g : ℕ → List ℕ → List ℕ) → ((i : ℕ) (w : List ℕ) → length (f i w) ≡ 16) → ((i : ℕ) (w : List ℕ) → Bytes 16 w → g i (f i w) ≡ w)
+    → (s : List ℕ) → Bytes 256 s → array 16 (λ i b. getD (g i (word (array 16 (λ i b. getD (f i (word s i)) b 0)) i)) b 0) ≡ s
+words-undone f g l undo s S =
+    sym (is-array 16 s _ (S .long)
+    (λ i b hi hb.
+    sym (getD-word s i b hb)
+    ∙ sym (ap (λ (w : List ℕ). getD w b 0) (ap (g i) (word-array (λ i. f i (word s i)) i hi (l i (word s i))) ∙ undo i (word s i) (word-bytes s i S)))))
+
+module _ (key : ℕ → List ℕ) (salt : List ℕ) (K : Keys key) (L : Bytes 16 salt) where
+  -- ---- BIG.SubWords
+
+  two-bytes : (i : ℕ) (w : List ℕ) → Bytes 16 w → Bytes 16 (aesRound (aesRound w (key i)) salt)
+  two-bytes i w W = round-bytes _ salt (round-bytes w (key i) W (K i)) L
+
+  two-back-bytes : (i : ℕ) (w : List ℕ) → Bytes 16 w → Bytes 16 (aesRoundBack (aesRoundBack w salt) (key i))
+  two-back-bytes i w W = round-back-bytes _ (key i) (round-back-bytes w salt W L) (K i)
+
+  two-undone : (i : ℕ) (w : List ℕ) → Bytes 16 w → aesRoundBack (aesRoundBack (aesRound (aesRound w (key i)) salt) salt) (key i) ≡ w
+  two-undone i w W =
+      ap (λ (x : List ℕ). aesRoundBack x (key i)) (round-undone (aesRound w (key i)) salt (round-bytes w (key i) W (K i))) ∙ round-undone w (key i) W
+
+  two-back-undone : (i : ℕ) (w : List ℕ) → Bytes 16 w → aesRound (aesRound (aesRoundBack (aesRoundBack w salt) (key i)) (key i)) salt ≡ w
+  two-back-undone i w W =
+      ap (λ (x : List ℕ). aesRound x salt) (round-back-undone (aesRoundBack w salt) (key i) (round-back-bytes w salt W L) (K i))
+      ∙ round-back-undone w salt W L
+
+  sub-words-bytes : (s : List ℕ) → Bytes 256 s → Bytes 256 (bigSubWords key salt s)
+  unfolding bigSubWords
+  sub-words-bytes s S = array-bytes 16 _ (λ i b hi hb. two-bytes i (word s i) (word-bytes s i S) .small b)
+
+  sub-words-back-bytes : (s : List ℕ) → Bytes 256 s → Bytes 256 (bigSubWordsBack key salt s)
+  unfolding bigSubWordsBack
+  sub-words-back-bytes s S = array-bytes 16 _ (λ i b hi hb. two-back-bytes i (word s i) (word-bytes s i S) .small b)
+
+  sub-words-undone : (s : List ℕ) → Bytes 256 s → bigSubWordsBack key salt (bigSubWords key salt s) ≡ s
+  unfolding bigSubWords bigSubWordsBack
+  sub-words-undone =
+      words-undone (λ i w. aesRound (aesRound w (key i)) salt) (λ i w. aesRoundBack (aesRoundBack w salt) (key i)) (λ i w. length-round _ salt) two-undone
+
+  sub-words-back-undone : (s : List ℕ) → Bytes 256 s → bigSubWords key salt (bigSubWordsBack key salt s) ≡ s
+  unfolding bigSubWords bigSubWordsBack
+  sub-words-back-undone =
+      words-undone (λ i w. aesRoundBack (aesRoundBack w salt) (key i)) (λ i w. aesRound (aesRound w (key i)) salt) (λ i w. length-round-back _ (key i)) two-back-undone
+
+  -- ---- BIG.Round
+
+  round-is-square : (s : List ℕ) → Bytes 256 s → Bytes 256 (bigRound key salt s)
+  unfolding bigRound bigShiftRows bigMixColumns
+  round-is-square s S = mix-columns-bytes 16 forward _ forward-bytes (shift-bytes 16 _ (sub-words-bytes s S))
+
+  round-back-is-square : (s : List ℕ) → Bytes 256 s → Bytes 256 (bigRoundBack key salt s)
+  unfolding bigRoundBack bigShiftRowsBack bigMixColumnsBack
+  round-back-is-square s S = sub-words-back-bytes _ (shift-back-bytes 16 _ (mix-columns-bytes 16 backward s backward-bytes S))
+
+  big-round-undone : (s : List ℕ) → Bytes 256 s → bigRoundBack key salt (bigRound key salt s) ≡ s
+  unfolding bigRound bigRoundBack bigShiftRows bigShiftRowsBack bigMixColumns bigMixColumnsBack
+  big-round-undone s S =
+      let A : Bytes 256 (bigSubWords key salt s) = sub-words-bytes s S in
+      ap (λ (x : List ℕ). bigSubWordsBack key salt (bigShiftRowsBack x)) (mix-columns-undone 16 _ (shift-bytes 16 _ A))
+      ∙ ap (bigSubWordsBack key salt) (shift-undone 16 _ (A .long))
+      ∙ sub-words-undone s S
+
+  big-round-back-undone : (s : List ℕ) → Bytes 256 s → bigRound key salt (bigRoundBack key salt s) ≡ s
+  unfolding bigRound bigRoundBack bigShiftRows bigShiftRowsBack bigMixColumns bigMixColumnsBack
+  big-round-back-undone s S =
+      let A : Bytes 256 (bigMixColumnsBack s) = mix-columns-bytes 16 backward s backward-bytes S in
+      ap (λ (x : List ℕ). bigMixColumns (bigShiftRows x)) (sub-words-back-undone _ (shift-back-bytes 16 _ A))
+      ∙ ap bigMixColumns (shift-back-undone 16 _ (A .long))
+      ∙ mix-columns-back-undone 16 s S
+
+-- ---- the rounds, over their number
+
+module _ (key : ℕ → List ℕ) (salt : List ℕ) (K : Keys key) (L : Bytes 16 salt) where
+  keys-of : (n : ℕ) → Keys (λ i. key (16 * n + i))
+  keys-of n i = K (16 * n + i)
+
+  pub rounds-are-squares : (n : ℕ) (s : List ℕ) → Bytes 256 s → Bytes 256 (rounds n key salt s)
+  unfolding rounds
+  rounds-are-squares zero s S = S
+  rounds-are-squares (suc n) s S = round-is-square _ salt (keys-of n) L _ (rounds-are-squares n s S)
+
+  pub rounds-back-are-squares : (n : ℕ) (s : List ℕ) → Bytes 256 s → Bytes 256 (roundsBack n key salt s)
+  unfolding roundsBack
+  rounds-back-are-squares zero s S = S
+  rounds-back-are-squares (suc n) s S = rounds-back-are-squares n _ (round-back-is-square _ salt (keys-of n) L s S)
+
+  pub rounds-undone : (n : ℕ) (s : List ℕ) → Bytes 256 s → roundsBack n key salt (rounds n key salt s) ≡ s
+  unfolding rounds roundsBack
+  rounds-undone zero s S = refl
+  rounds-undone (suc n) s S =
+      ap (roundsBack n key salt) (big-round-undone _ salt (keys-of n) L _ (rounds-are-squares n s S)) ∙ rounds-undone n s S
+
+  pub rounds-back-undone : (n : ℕ) (s : List ℕ) → Bytes 256 s → rounds n key salt (roundsBack n key salt s) ≡ s
+  unfolding rounds roundsBack
+  rounds-back-undone zero s S = refl
+  rounds-back-undone (suc n) s S =
+      ap (bigRound (λ i. key (16 * n + i)) salt) (rounds-back-undone n _ (round-back-is-square _ salt (keys-of n) L s S))
+      ∙ big-round-back-undone _ salt (keys-of n) L s S
+
+-- ---- what the code's loops do: round after round, with the counter raised by 16 for each
+
+module _ (C : ℕ) (salt : List ℕ) where
+  -- a round whose first word uses the counter C + 16 n
+  keys-on : (n i : ℕ) → keysFrom (C + 16 * n) i ≡ keysFrom C (16 * n + i)
+  keys-on n i = ap counterKey (add-assoc C (16 * n) i)
+
+  pub next-round : (n : ℕ) (s₀ s a b c : List ℕ) → s ≡ rounds n (keysFrom C) salt s₀ → a ≡ bigSubWords (keysFrom (C + 16 * n)) salt s → b ≡ bigShiftRows a → c ≡ bigMixColumns b
+      → c ≡ rounds (n + 1) (keysFrom C) salt s₀
+  unfolding rounds bigRound bigSubWords
+  next-round n s₀ s a b c e p q r =
+      r
+      ∙ ap bigMixColumns
+      (q
+      ∙ ap bigShiftRows
+      (p
+      ∙ array-ext 16 _ _ (λ i k hi hk. ap (λ (x : List ℕ). getD (aesRound (aesRound (word s i) x) salt) k 0) (keys-on n i))
+      ∙ ap (bigSubWords (λ i. keysFrom C (16 * n + i)) salt) e))
+      ∙ ap (λ (m : ℕ). rounds m (keysFrom C) salt s₀) (sym (add-one n))
+
+  pub next-round-back : (n : ℕ) (s a b c : List ℕ) → a ≡ bigMixColumnsBack s → b ≡ bigShiftRowsBack a → c ≡ bigSubWordsBack (keysFrom (C + 16 * n)) salt b
+      → roundsBack n (keysFrom C) salt c ≡ roundsBack (n + 1) (keysFrom C) salt s
+  unfolding roundsBack bigRoundBack bigSubWordsBack
+  next-round-back n s a b c p q r =
+      ap (roundsBack n (keysFrom C) salt)
+      (r
+      ∙ array-ext 16 _ _ (λ i k hi hk. ap (λ (x : List ℕ). getD (aesRoundBack (aesRoundBack (word b i) salt) x) k 0) (keys-on n i))
+      ∙ ap (bigSubWordsBack (λ i. keysFrom C (16 * n + i)) salt) (q ∙ ap bigShiftRowsBack p))
+      ∙ ap (λ (m : ℕ). roundsBack m (keysFrom C) salt s) (sym (add-one n))

@@ -1,0 +1,101 @@
+-- Loops over the words and the columns of a square. Assumes nothing.
+use mathlib.Core.Path.{_≡_, refl, sym, ap, ap₂, _∙_, subst}
+use mathlib.Core.Logic.{⊎-elim}
+use mathlib.Core.List.{List, [], _∷_, _++_}
+use Prim.Native.Nat.{ℕ, zero, suc, _+_, _*_, _/_, _%_, _-_, _<_, _≤_}
+use native.Mathlib.Nat.{eq-or-lt-of-le, le-of-suc-le-suc, mod-lt, zero-add}
+use native.Mathlib.Omega.{arith}
+use lib.Dec.{lit<}
+use lib.ListN.{drop, getD, length, length-set, set, take}
+use lib.Seq.{getD-set-other, getD-set-same}
+use Rattle.aes_round.specs.Array.{array, column, entry}
+use Rattle.aes_round.specs.Bytes.{tab}
+use Rattle.aes_round.specs.Mixing.{mixColumn}
+use Rattle.aes_round.specs.Rounds.{mixColumns, shiftBackFrom, shiftFrom}
+use Rattle.aes_round.proofs.Laws.Array.{array-ext, entry-is, getD-column, is-array, tab-array}
+use Rattle.aes_round.proofs.Laws.Bytes.{getD-tab, is-tab, length-tab, tab-ext}
+use Rattle.aes_round.proofs.Laws.Every.{agree}
+use Rattle.aes_round.proofs.Laws.Fill.{Filled, fill-all, fill-none}
+use Rattle.aes_round.proofs.Laws.Rounds.{entry-mix, entry-shift, entry-shift-back, length-mix-columns, length-shift, length-shift-back}
+use Rattle.echo.specs.Placed.{Placed}
+use Rattle.echo.specs.Square.{bigShiftRows, bigShiftRowsBack, mixWords, word}
+use Rattle.echo.proofs.Laws.Placed.{fill-part}
+use Rattle.echo.proofs.Laws.Square.{getD-word}
+
+-- a word by the bytes that the code reads
+pub word-is : (s : List ℕ) (i : ℕ) → word s i ≡ tab 16 (λ b. getD s (16 * i + b) 0)
+unfolding word
+word-is s i = tab-ext 16 _ _ (λ b h. entry-is 16 s i b)
+
+-- sixteen bytes read one by one
+pub sixteen-are : (l : List ℕ) → length l ≡ 16 → tab 16 (λ k. getD l (0 + k) 0) ≡ l
+sixteen-are l e = sym (is-tab 16 l _ e (λ k h. ap (λ (i : ℕ). getD l i 0) (sym (zero-add k))))
+
+-- ---- a loop that rewrites word after word: f i is the new word i
+
+abbrev bytesOf : (ℕ → List ℕ) → ℕ → ℕ
+bytesOf f k = getD (f (k / 16)) (k % 16) 0
+
+module _ (f : ℕ → List ℕ) (l : List ℕ) where
+  -- the first j words are new
+  pub Words : ℕ → List ℕ → Type 0
+  Words j s = Filled 256 (bytesOf f) l (16 * j) s
+
+  pub no-words : length l ≡ 256 → Words 0 l
+  unfolding Words
+  no-words = fill-none 256 (bytesOf f) l
+
+  -- the word j is still the old one
+  pub old-word : (j : ℕ) (s : List ℕ) → Words j s → tab 16 (λ b. getD s (16 * j + b) 0) ≡ word l j
+  unfolding Words
+  old-word j s F = tab-ext 16 _ _ (λ b h. F .rest (16 * j + b) (omega arith)) ∙ sym (word-is l j)
+
+  pub next-word : (j : ℕ) (s w t : List ℕ) → Words j s → j < 16 → Placed s (16 * j) w 16 t → w ≡ f j → Words (j + 1) t
+  unfolding Words
+  next-word j s w t F h P e =
+      subst (λ (k : ℕ). Filled 256 (bytesOf f) l k t) (steps j)
+      (fill-part 256 (bytesOf f) l (16 * j) s w t 16 F P (omega arith)
+      (λ b hb. ap (λ (v : List ℕ). getD v b 0) e ∙ ap₂ (λ (q r : ℕ). getD (f q) r 0) (quotient j b hb) (remainder j b hb)))
+    where
+      steps : (j : ℕ) → 16 * j + 16 ≡ 16 * (j + 1)
+      steps j = omega arith
+
+      quotient : (j b : ℕ) → b < 16 → j ≡ (16 * j + b) / 16
+      quotient j b h = omega arith
+
+      remainder : (j b : ℕ) → b < 16 → b ≡ (16 * j + b) % 16
+      remainder j b h = omega arith
+
+  pub all-words : (j : ℕ) (s : List ℕ) → Words j s → 16 ≤ j → s ≡ array 16 (λ i b. getD (f i) b 0)
+  unfolding Words
+  all-words j s F h =
+      fill-all 256 (bytesOf f) l (16 * j) s F (omega arith)
+      ∙ tab-array 16 (bytesOf f) _ (λ i b hi hb. ap₂ (λ (q r : ℕ). getD (f q) r 0) (quotient i b hb) (remainder i b hb))
+    where
+      quotient : (j b : ℕ) → b < 16 → (16 * j + b) / 16 ≡ j
+      quotient j b h = omega arith
+
+      remainder : (j b : ℕ) → b < 16 → (16 * j + b) % 16 ≡ b
+      remainder j b h = omega arith
+
+-- ---- BIG.ShiftRows moves words
+
+pub shift-words : (s : List ℕ) → array 16 (λ i b. getD (tab 16 (λ b. getD s (16 * (5 * i % 16) + b) 0)) b 0) ≡ bigShiftRows s
+unfolding bigShiftRows
+shift-words s =
+    sym (is-array 16 _ _ (length-shift 16 s)
+    (λ i b hi hb.
+    entry-shift 16 s i b hi hb ∙ entry-is 16 s (shiftFrom i) b ∙ ap (λ (j : ℕ). getD s (16 * j + b) 0) (places i hi) ∙ sym (getD-tab 16 _ b hb)))
+  where
+    places : (i : ℕ) → i < 16 → shiftFrom i ≡ 5 * i % 16
+    places = agree shiftFrom (λ i. 5 * i % 16) 16 tt
+
+pub shift-words-back : (s : List ℕ) → array 16 (λ i b. getD (tab 16 (λ b. getD s (16 * (13 * i % 16) + b) 0)) b 0) ≡ bigShiftRowsBack s
+unfolding bigShiftRowsBack
+shift-words-back s =
+    sym (is-array 16 _ _ (length-shift-back 16 s)
+    (λ i b hi hb.
+    entry-shift-back 16 s i b hi hb ∙ entry-is 16 s (shiftBackFrom i) b ∙ ap (λ (j : ℕ). getD s (16 * j + b) 0) (places i hi) ∙ sym (getD-tab 16 _ b hb)))
+  where
+    places : (i : ℕ) → i < 16 → shiftBackFrom i ≡ 13 * i % 16
+    places = agree shiftBackFrom (λ i. 13 * i % 16) 16 tt

@@ -1,0 +1,50 @@
+-- Nothing is lost before the fold. For each number n of rounds, 8 and 10 among them, each salt of sixteen bytes and each starting counter:
+-- the rounds send different squares of 256 bytes to different squares and reach every square; the way back undoes them, and they undo
+-- it, exactly; row shift and word-column mix of two squares xored are their two results xored; and the new chaining value is the fold of
+-- the starting square xored with the fold of the finished one. Assumes nothing.
+use mathlib.Core.Path.{_≡_, sym, ap, _∙_}
+use mathlib.Core.List.{List, _++_}
+use Prim.Native.Nat.{ℕ, _+_, _*_, _<_}
+use lib.ListN.{length}
+use Rattle.aes_round.specs.Bytes.{Bytes, xorBytes}
+use Rattle.aes_round.specs.Mixing.{forward}
+use Rattle.aes_round.proofs.Laws.Rounds.{mix-columns-xor, shift-xor}
+use Rattle.echo.specs.Compression.{bigFinal, compress, fold}
+use Rattle.echo.specs.Square.{bigMixColumns, bigShiftRows, keysFrom, rounds, roundsBack}
+use Rattle.echo.proofs.Laws.Compression.{fold-loaded}
+use Rattle.echo.proofs.Laws.Numbers.{key-bytes}
+use Rattle.echo.proofs.Laws.Square.{Keys, rounds-back-are-squares, rounds-back-undone, rounds-undone}
+
+module _ (n start : ℕ) (salt : List ℕ) (L : Bytes 16 salt) where
+  keys : Keys (keysFrom start)
+  keys number = key-bytes (start + number)
+
+  -- squares that go to one square are one
+  pub different-squares-go-to-different-squares : (s t : List ℕ) → Bytes 256 s → Bytes 256 t → rounds n (keysFrom start) salt s ≡ rounds n (keysFrom start) salt t → s ≡ t
+  different-squares-go-to-different-squares s t S T e =
+      sym (rounds-undone (keysFrom start) salt keys L n s S) ∙ ap (roundsBack n (keysFrom start) salt) e ∙ rounds-undone (keysFrom start) salt keys L n t T
+
+  pub every-square-is-reached : (t : List ℕ) → Bytes 256 t → (s : List ℕ) × Bytes 256 s × (rounds n (keysFrom start) salt s ≡ t)
+  every-square-is-reached t T =
+      (roundsBack n (keysFrom start) salt t, rounds-back-are-squares (keysFrom start) salt keys L n t T, rounds-back-undone (keysFrom start) salt keys L n t T)
+
+  pub backward-undoes-forward : (s : List ℕ) → Bytes 256 s → roundsBack n (keysFrom start) salt (rounds n (keysFrom start) salt s) ≡ s
+  backward-undoes-forward = rounds-undone (keysFrom start) salt keys L n
+
+  pub forward-undoes-backward : (s : List ℕ) → Bytes 256 s → rounds n (keysFrom start) salt (roundsBack n (keysFrom start) salt s) ≡ s
+  forward-undoes-backward = rounds-back-undone (keysFrom start) salt keys L n
+
+pub row-shift-of-xor : (s t : List ℕ) → bigShiftRows (xorBytes 256 s t) ≡ xorBytes 256 (bigShiftRows s) (bigShiftRows t)
+unfolding bigShiftRows
+row-shift-of-xor = shift-xor 16
+
+pub column-mix-of-xor : (s t : List ℕ) → bigMixColumns (xorBytes 256 s t) ≡ xorBytes 256 (bigMixColumns s) (bigMixColumns t)
+unfolding bigMixColumns
+column-mix-of-xor = mix-columns-xor 16 forward
+
+-- for a chaining variable v of c bytes and a block m of so many parts of c bytes: c = 64 with 3 parts, c = 128 with 1
+pub new-chaining-value : (c parts n start : ℕ) (salt v m : List ℕ) → 0 < c → length v ≡ c → length m ≡ c * parts
+    → compress c n (keysFrom start) salt v m ≡ xorBytes c (fold c (v ++ m)) (fold c (rounds n (keysFrom start) salt (v ++ m)))
+unfolding compress bigFinal
+new-chaining-value c parts n start salt v m h lv lm =
+    ap (λ (x : List ℕ). xorBytes c x (fold c (rounds n (keysFrom start) salt (v ++ m)))) (sym (fold-loaded c v m parts h lv lm))

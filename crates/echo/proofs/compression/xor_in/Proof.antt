@@ -1,0 +1,70 @@
+-- `xor_in` meets its contract: the loop rewrites the list from the front. Assumes nothing.
+use mathlib.Core.Path.{_∙_, _≡_, ap, refl}
+use Prim.Native.Nat.{_-_, ℕ}
+use native.Mathlib.Nat.{le-refl}
+use lib.ListN.{getD, length}
+use borrow.Author.Needs.{needs}
+use Rattle.aes_round.proofs.Laws.Bytes.{}
+use Rattle.aes_round.proofs.Laws.Fill.{Filled, fill-all, fill-more, fill-none}
+use Rattle.aes_round.proofs.Laws.Xor.{code-xor, xor-is-tab}
+use Rattle.aes_round.specs.Bytes.{xor}
+use Rattle.echo.proofs.compression.xor_in.Statement.{statement}
+use Rattle.echo.proofs.compression.xor_in.Tie as tie
+
+abbrev Inv-loop : tie.InvT-loop
+Inv-loop v₀ src n k₀ v k = (n ≡ length v₀) × Filled n (λ j. xor (getD v₀ j 0) (getD src j 0)) v₀ k v
+
+abbrev μ-loop : tie.MeasureT-loop
+μ-loop v₀ src n k₀ v k = n - k
+
+loop-holds : tie.Need-loop-holds Inv-loop μ-loop
+loop-holds c = (refl, fill-none _ _ _ refl)
+
+slice-read-v : tie.Need-slice-read-v Inv-loop μ-loop
+slice-read-v c = search needs
+
+shared-slice-read-v : tie.Need-shared-slice-read-v Inv-loop μ-loop
+shared-slice-read-v c = search needs
+
+slice-write-v : tie.Need-slice-write-v Inv-loop μ-loop
+slice-write-v c = search needs
+
+add-k : tie.Need-add-k Inv-loop μ-loop
+add-k c = search needs
+
+loop-less : tie.Need-loop-less Inv-loop μ-loop
+loop-less c = search needs
+
+loop-again : tie.Need-loop-again Inv-loop μ-loop
+loop-again c =
+    let A = c .before .before .before .before .args in
+    let L = c .before .before .before .loop in
+    let F = L .inv .1 in (
+      search needs,
+      fill-more _ _ _ _ _ _ F (search needs)
+          (code-xor (getD (L .v) (L .k) 0) (getD (A .src .now) (L .k) 0) ∙ ap (λ (x : ℕ). xor x (getD (A .src .now) (L .k) 0)) (F .rest _ (le-refl _))),
+    )
+
+same-length : tie.Need-same-length Inv-loop μ-loop
+same-length c = c .before .loop .inv .1 .long ∙ c .before .loop .inv .0
+
+returns : tie.Need-returns Inv-loop μ-loop
+returns c =
+    let A = c .before .before .args in
+    fill-all _ _ _ _ _ (c .before .loop .inv .1) (search needs) ∙ xor-is-tab (length (A .v .now)) (A .v .now) (A .src .now)
+
+pub xor-in-spec : {M : Type 1} → statement M
+xor-in-spec =
+    tie.close
+    (tie.spec
+    Inv-loop
+    μ-loop
+    loop-holds
+    slice-read-v
+    shared-slice-read-v
+    slice-write-v
+    add-k
+    loop-less
+    loop-again
+    same-length
+    returns)

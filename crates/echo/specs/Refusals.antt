@@ -1,0 +1,29 @@
+-- The refusal numbers, and which comes first. Assumes nothing.
+use mathlib.Core.Bool.{Bool, true, false, not}
+use mathlib.Core.List.{List, [], _∷_}
+use Prim.Native.Nat.{ℕ, zero, suc, _^_, _-_}
+use lib.Dec.{eqb, ltb}
+
+infix 20 _when_
+-- a refusal and the condition under which it is given
+pub data Refusal : Type 0 where
+  _when_ : ℕ → Bool → Refusal
+
+-- the first of a list whose condition holds; 0, no refusal, where none does. The lists stand in the order of the numbers
+abbrev pub firstOf : List Refusal → ℕ
+firstOf [] = 0
+firstOf ((n when true) ∷ rest) = n
+firstOf ((n when false) ∷ rest) = firstOf rest
+
+-- what is left behind: the first where nothing is refused, the second where something is
+abbrev pub unless : {A : Type 0} → ℕ → A → A → A
+unless zero done kept = done
+unless (suc n) done kept = kept
+
+-- 2: the salt is not 16 bytes
+abbrev pub noSalt : ℕ → Bool
+noSalt length = not (eqb length 16)
+
+-- 7: the starting counter is above 2^64 - 161
+abbrev pub counterTooHigh : ℕ → Bool
+counterTooHigh counter = ltb (2 ^ 64 - 161) counter

@@ -1,0 +1,84 @@
+// Compression (sections 3 and 4), over the size of the chaining variable.
+ghost use mathlib.Core.Path.{_≡_};
+ghost use Prim.Native.Nat.{_+_, _*_, _/_, _<_, _≤_, _^_};
+ghost use lib.ListN.{length};
+ghost use Rattle.aes_round.specs.Bytes.{xorBytes};
+ghost use Rattle.echo.specs.Compression.{fold};
+ghost use Rattle.echo.specs.Compression.{compress as Compression·compress};
+ghost use Rattle.echo.specs.Routines.{compressLeaves, compressRefusal, roundCount};
+ghost use Rattle.echo.specs.Square.{keysFrom};
+use super::lent::copy_in;
+use super::lent::sixteen;
+use super::refusals::compress_refusal;
+use super::run::run;
+
+// Xors src into v.
+fn xor_in(v: &mut [u8], src: &[u8])
+    requires { ⌜ length (now src) ≡ length (now v) ⌝ }
+    ensures { λ _. ⌜ now (v .exit) ≡ xorBytes (length (now (v .entry))) (now (v .entry)) (now (src .entry)) ⌝ }
+{
+    let n = v.len();
+    for k in 0..n {
+        v[k] = v[k] ^ src[k];
+    }
+}
+
+// Xors the fold of src into v: src is `parts` parts of v's size.
+fn fold_in(v: &mut [u8], src: &[u8], parts: usize)
+    requires { ⌜ 0 < length (now v) ⌝ }
+    requires { ⌜ length (now src) ≡ length (now v) * parts ⌝ }
+    ensures { λ _. ⌜ now (v .exit) ≡ xorBytes (length (now (v .entry))) (now (v .entry)) (fold (length (now (v .entry))) (now (src .entry))) ⌝ }
+{
+    let c = v.len();
+    for j in 0..parts {
+        let at = c * j;
+        let end = at + c;
+        xor_in(v, &src[at..end]);
+    }
+}
+
+// A chaining variable and a block that fill a square together, through `count` rounds.
+pub(crate) fn compress_in(
+    chaining: &mut [u8],
+    block: &[u8],
+    count: u64,
+    counter: u64,
+    salt: [u8; 16],
+)
+    requires { ⌜ 0 < length (now chaining) ⌝ }
+    requires { ⌜ length (now chaining) + length (now block) ≡ 256 ⌝ }
+    requires { ⌜ 256 ≡ length (now chaining) * (256 / length (now chaining)) ⌝ }
+    requires { ⌜ counter + 16 * count ≤ 2 ^ 64 ⌝ }
+    ensures { λ _. ⌜ now (chaining .exit) ≡ Compression·compress (length (now (chaining .entry))) count (keysFrom counter) salt (now (chaining .entry)) (now (block .entry)) ⌝ }
+{
+    let c = chaining.len();
+    let parts = 256 / c;
+    let mut square = [0u8; 256];
+    copy_in(&mut square, 0, chaining);
+    copy_in(&mut square, c, block);
+    run(&mut square, count, counter, salt);
+    fold_in(chaining, block, parts - 1);
+    fold_in(chaining, &square, parts);
+}
+
+// The rounds of the family that the size of the chaining variable tells.
+fn round_count(chaining: usize) -> u64
+    ensures { λ r. ⌜ r ≡ roundCount chaining ⌝ }
+{
+    if chaining == 64 { 8 } else { 10 }
+}
+
+// Rewrites the chaining variable by one block, and answers 0; or refuses by 2, 6 or 7 and leaves it. Sizes are 64 and 192 bytes or 128
+// and 128.
+pub fn compress(chaining: &mut [u8], block: &[u8], counter: u64, salt: &[u8]) -> u8
+    ensures refusal { λ r. ⌜ r ≡ compressRefusal (length (now (chaining .entry))) (length (now (block .entry))) counter (length (now (salt .entry))) ⌝ }
+    ensures left { λ _. ⌜ now (chaining .exit) ≡ compressLeaves (now (chaining .entry)) (now (block .entry)) counter (now (salt .entry)) ⌝ }
+{
+    let c = chaining.len();
+    let refusal = compress_refusal(c, block.len(), counter, salt.len());
+    if refusal != 0 {
+        return refusal;
+    }
+    compress_in(chaining, block, round_count(c), counter, sixteen(salt, 0));
+    0
+}

@@ -1,0 +1,12 @@
+// ECHO 2.0: the rounds of its square, forward and backward, and compression.
+mod compression;
+mod lent;
+mod mix_columns;
+mod refusals;
+mod run;
+mod shift_rows;
+mod sub_words;
+
+pub use compression::compress;
+pub use run::rounds;
+pub use run::rounds_back;

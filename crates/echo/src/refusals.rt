@@ -1,0 +1,64 @@
+// Which refusal comes first.
+ghost use mathlib.Core.Bool.{_||_};
+ghost use mathlib.Core.Path.{_≡_};
+ghost use lib.Dec.{eqb};
+ghost use Rattle.echo.specs.Routines.{compressRefusal, roundsRefusal, sizesFit};
+
+// The highest starting counter, 2^64 - 161: the 160 words of ten rounds count on from it, and the last stays below 2^64.
+const LAST_COUNTER: u64 = 0xffff_ffff_ffff_ff5f;
+
+fn is_round_count(count: u64) -> bool
+    ensures { λ r. ⌜ r ≡ (eqb count 8 || eqb count 10) ⌝ }
+{
+    if count == 8 {
+        return true;
+    }
+    count == 10
+}
+
+fn sizes_fit(chaining: usize, block: usize) -> bool
+    ensures { λ r. ⌜ r ≡ sizesFit chaining block ⌝ }
+{
+    if chaining == 64 {
+        return block == 192;
+    }
+    if chaining == 128 {
+        return block == 128;
+    }
+    false
+}
+
+// What a run of rounds is refused for, 0 for nothing.
+pub(crate) fn rounds_refusal(square: usize, count: u64, counter: u64, salt: usize) -> u8
+    ensures { λ r. ⌜ r ≡ roundsRefusal square count counter salt ⌝ }
+{
+    if salt != 16 {
+        return 2;
+    }
+    if square != 256 {
+        return 6;
+    }
+    if !is_round_count(count) {
+        return 6;
+    }
+    if LAST_COUNTER < counter {
+        return 7;
+    }
+    0
+}
+
+// What a compression is refused for, 0 for nothing.
+pub(crate) fn compress_refusal(chaining: usize, block: usize, counter: u64, salt: usize) -> u8
+    ensures { λ r. ⌜ r ≡ compressRefusal chaining block counter salt ⌝ }
+{
+    if salt != 16 {
+        return 2;
+    }
+    if !sizes_fit(chaining, block) {
+        return 6;
+    }
+    if LAST_COUNTER < counter {
+        return 7;
+    }
+    0
+}

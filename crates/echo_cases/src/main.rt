@@ -1,0 +1,116 @@
+// Runs rounds, forward and backward, and compressions on the cases of standard input, which a second implementation made, and prints
+// the refusal number of each and the whole lent memory behind it.
+//
+// A case is 513 bytes: a kind (1 rounds, 2 rounds back, 3 compression), the salt's length, the round count, the length of the square or
+// chaining variable and that of the block (two bytes each), the counter (eight bytes), then room for the salt (18 bytes), for the square
+// or chaining variable (272) and for the block (208). Numbers have their least significant byte first.
+ghost use Prim.Native.Nat.{_≤_, _+_, _<_};
+ghost use mathlib.Core.Path.{_≡_};
+ghost use lib.ListN.{length};
+use libc::STDIN_FILENO;
+use libc::STDOUT_FILENO;
+
+fn wide(x: u8) -> u64
+    ensures { λ r. ⌜ r < 256 ⌝ }
+{
+    x as u64
+}
+
+// The number in two bytes from the place `at` on.
+fn short(bytes: &[u8], at: usize) -> usize
+    requires { ⌜ at + 2 ≤ length (now bytes) ⌝ }
+    ensures { λ r. ⌜ r < 65536 ⌝ }
+{
+    (wide(bytes[at]) + 256 * wide(bytes[at + 1])) as usize
+}
+
+// The number in eight bytes from the place `at` on.
+fn long(bytes: &[u8], at: usize) -> u64
+    requires { ⌜ at + 8 ≤ length (now bytes) ⌝ }
+{
+    let mut value: u64 = 0;
+    let mut left: usize = 8;
+    while 0 < left {
+        left -= 1;
+        value = (value % 0x100_0000_0000_0000) * 256 + wide(bytes[at + left]);
+    }
+    value
+}
+
+fn print(refusal: u8, bytes: &[u8]) {
+    io::print_decimal(STDOUT_FILENO, refusal as u64);
+    io::write_all(STDOUT_FILENO, b" ");
+    for i in 0..bytes.len() {
+        io::print_hex(STDOUT_FILENO, wide(bytes[i]), 2);
+    }
+    io::write_all(STDOUT_FILENO, b"\n");
+}
+
+// Calls the routine of a kind on the first `end` bytes of `a`.
+fn apply(
+    kind: u8,
+    a: &mut [u8],
+    end: usize,
+    block: &[u8],
+    count: u64,
+    counter: u64,
+    salt: &[u8],
+) -> u8
+    requires { ⌜ end ≤ length (now a) ⌝ }
+{
+    let lent = &mut a[..end];
+    if kind == 1 {
+        echo::rounds(lent, count, counter, salt)
+    } else if kind == 2 {
+        echo::rounds_back(lent, count, counter, salt)
+    } else {
+        echo::compress(lent, block, counter, salt)
+    }
+}
+
+fn run(case: &[u8])
+    requires { ⌜ length (now case) ≡ 513 ⌝ }
+{
+    let salt_end = 15 + wide(case[1]) as usize;
+    let a_end = short(case, 3);
+    let block_end = 305 + short(case, 5);
+    if 33 < salt_end {
+        return;
+    }
+    if 272 < a_end {
+        return;
+    }
+    if 513 < block_end {
+        return;
+    }
+    let mut a = [0u8; 272];
+    for i in 0..272 {
+        a[i] = case[33 + i];
+    }
+    let salt = &case[15..salt_end];
+    let block = &case[305..block_end];
+    let refusal = apply(
+        case[0],
+        &mut a,
+        a_end,
+        block,
+        wide(case[2]),
+        long(case, 7),
+        salt,
+    );
+    print(refusal, &a);
+}
+
+// A proved loop has to end, and nothing says that the input does: the turns count down from a number that no run uses up.
+fn main() {
+    let mut case = [0u8; 513];
+    let mut turns = u64::MAX;
+    while 0 < turns {
+        let n = io::read_full(STDIN_FILENO, &mut case);
+        if n < 513 {
+            return;
+        }
+        run(&case);
+        turns -= 1;
+    }
+}

@@ -1,0 +1,107 @@
+//! One case of `echo_cases`: its record of 513 bytes and the line it has to give.
+
+use crate::generator::Generator;
+use plain::{checked, hex};
+
+/// Bytes of a record.
+pub const RECORD: usize = 513;
+
+/// What a case asks for; the numbers stand in the record.
+#[derive(Debug, Clone, Copy, PartialEq, Eq)]
+pub enum Kind {
+    /// Rounds forward over a square.
+    Rounds = 1,
+    /// Rounds backward over a square.
+    RoundsBack = 2,
+    /// A block taken into a chaining value.
+    Compress = 3,
+}
+
+/// A case: buffers with room to spare, and how much of each is handed over.
+#[derive(Clone)]
+pub struct Case {
+    pub kind: Kind,
+    /// Bytes of the salt that are handed over.
+    pub salt_length: u8,
+    /// The round count; of no use to a compression.
+    pub count: u8,
+    /// Bytes of `a` that are handed over.
+    pub a_length: u16,
+    /// Bytes of `b` that are handed over; of no use to rounds.
+    pub b_length: u16,
+    pub counter: u64,
+    pub salt: [u8; 18],
+    /// The square or the chaining value.
+    pub a: [u8; 272],
+    /// The block.
+    pub b: [u8; 208],
+}
+
+impl Case {
+    /// Rounds over a square, with everything else from the generator.
+    pub fn on_square(generator: &mut Generator, kind: Kind, count: u8, counter: u64) -> Case {
+        let b_length = generator.below(209) as u16;
+        Case::filled(generator, kind, count, 256, b_length, counter)
+    }
+
+    /// A compression, with everything else from the generator.
+    pub fn compress(generator: &mut Generator, chaining: u16, block: u16, counter: u64) -> Case {
+        let count = generator.below(256) as u8;
+        Case::filled(generator, Kind::Compress, count, chaining, block, counter)
+    }
+
+    fn filled(
+        generator: &mut Generator,
+        kind: Kind,
+        count: u8,
+        a_length: u16,
+        b_length: u16,
+        counter: u64,
+    ) -> Case {
+        Case {
+            kind,
+            salt_length: 16,
+            count,
+            a_length,
+            b_length,
+            counter,
+            salt: generator.bytes(),
+            a: generator.bytes(),
+            b: generator.bytes(),
+        }
+    }
+
+    /// The record. Numbers have their least significant byte first.
+    pub fn record(&self) -> Vec<u8> {
+        let mut record = Vec::with_capacity(RECORD);
+        record.extend([self.kind as u8, self.salt_length, self.count]);
+        record.extend(self.a_length.to_le_bytes());
+        record.extend(self.b_length.to_le_bytes());
+        record.extend(self.counter.to_le_bytes());
+        record.extend(self.salt);
+        record.extend(self.a);
+        record.extend(self.b);
+        record
+    }
+
+    /// The refusal number, or 0, and all of `a` afterwards.
+    pub fn answer(&self) -> (u8, [u8; 272]) {
+        let mut a = self.a;
+        let lent = &mut a[..self.a_length as usize];
+        let block = &self.b[..self.b_length as usize];
+        let salt = &self.salt[..self.salt_length as usize];
+        let count = u64::from(self.count);
+        let number = match self.kind {
+            Kind::Rounds => checked::rounds(lent, count, self.counter, salt),
+            Kind::RoundsBack => checked::rounds_back(lent, count, self.counter, salt),
+            Kind::Compress => checked::compress(lent, block, self.counter, salt),
+        };
+        (number, a)
+    }
+
+    /// The line that the program has to print for the record.
+    pub fn line(&self) -> String {
+        let (number, a) = self.answer();
+        format!("{number} {}\n", hex::encode(&a))
+    }
+}

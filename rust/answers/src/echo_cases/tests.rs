@@ -1,0 +1,66 @@
+use super::record::RECORD;
+use super::*;
+
+#[test]
+fn records_and_lines_have_their_sizes() {
+    let cases = cases();
+    assert!(cases.len() <= 120);
+    for case in &cases {
+        assert_eq!(case.record().len(), RECORD);
+        assert!(case.salt_length <= 18 && case.a_length <= 272 && case.b_length <= 208);
+        assert_eq!(case.line().len(), 2 + 2 * 272 + 1);
+    }
+}
+
+#[test]
+fn only_the_refused_cases_are_refused() {
+    let mut counts = [0; 8];
+    for case in cases() {
+        let (number, a) = case.answer();
+        counts[number as usize] += 1;
+        let lent = case.a_length as usize;
+        assert_eq!(number == 0, a != case.a);
+        assert_eq!(a[lent..], case.a[lent..]);
+    }
+    // 44 of rounds, 22 compressions and 4 empty messages are done. Alone, 9 are
+    // refused for the salt, 23 for the shape and 6 for the counter; of the
+    // twelve with several reasons, nine have a wrong salt.
+    assert_eq!(counts, [70, 0, 9 + 9, 0, 0, 0, 23 + 3, 6]);
+}
+
+#[test]
+fn backward_answers_are_the_squares_before() {
+    let cases = cases();
+    let pairs = cases[..44].chunks(2);
+    let undone = pairs.filter(|pair| {
+        let (forward, backward) = (&pair[0], &pair[1]);
+        backward.a == forward.answer().1 && backward.answer().1 == forward.a
+    });
+    assert_eq!(undone.count(), 12);
+}
+
+#[test]
+fn empty_messages_begin_with_the_published_digests() {
+    let lines: Vec<String> = cases()[66..70].iter().map(Case::line).collect();
+    assert!(lines[0].starts_with("0 17da087595166f733fff7cdb0bca6438f303d0e00c48b5e7a3075905"));
+    assert!(
+        lines[1].starts_with("0 4496cd09d425999aefa75189ee7fd3c97362aa9e4ca898328002d20a4b519788")
+    );
+    assert!(
+        lines[2].starts_with("0 134040763f840559b84b7a1ae5d6d64fc3659821a789cc64a7f1444c09ee7f81")
+    );
+    assert!(
+        lines[3].starts_with("0 158f58cc79d300a9aa292515049275d051a28ab931726d0ec44bdd9faef4a702")
+    );
+}
+
+#[test]
+fn the_files_hold_every_case() {
+    let count = cases().len();
+    let files = files();
+    assert_eq!(files[0].bytes.len(), count * RECORD);
+    assert_eq!(
+        files[1].bytes.iter().filter(|b| **b == b'\n').count(),
+        count
+    );
+}

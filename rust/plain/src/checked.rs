@@ -1,0 +1,110 @@
+//! The same work on any input: each call answers with a refusal number, or 0
+//! when it did its work. A refused call writes nothing.
+
+use crate::aes::Word;
+use crate::refusal::{self, COUNTER_LIMIT, MESSAGE_LIMIT};
+use crate::square::Square;
+use crate::{compression, family, square, table};
+
+/// Bytes of a fingerprint.
+pub const FINGERPRINT: usize = 32;
+
+/// The digest of `bits` bits, into the first bits / 8 bytes of `out`; those
+/// behind them stay. Refusals 1, 2, 4, 5.
+pub fn digest(bits: u64, salt: &[u8], message: &[u8], out: &mut [u8]) -> u8 {
+    let refused = digest_refusal(bits, salt.len(), message.len() as u64, out.len());
+    if refused == refusal::NONE {
+        let digest = crate::digest::digest(bits, &word(salt), message);
+        out[..digest.len()].copy_from_slice(&digest);
+    }
+    refused
+}
+
+/// The answer of [`digest`] by the sizes alone, so that it can be asked about
+/// messages that no memory holds.
+pub fn digest_refusal(bits: u64, salt: usize, message: u64, room: usize) -> u8 {
+    if !family::admitted(bits) {
+        refusal::DIGEST_LENGTH
+    } else if salt != 16 {
+        refusal::SALT
+    } else if message > MESSAGE_LIMIT {
+        refusal::MESSAGE
+    } else if room < bits as usize / 8 {
+        refusal::ROOM
+    } else {
+        refusal::NONE
+    }
+}
+
+/// Rounds forward over a lent square. Refusals 2, 6, 7.
+pub fn rounds(lent: &mut [u8], count: u64, counter: u64, salt: &[u8]) -> u8 {
+    on_square(lent, count, counter, salt, square::rounds)
+}
+
+/// Rounds backward over a lent square, from the starting counter of the way
+/// forward. Refusals 2, 6, 7.
+pub fn rounds_back(lent: &mut [u8], count: u64, counter: u64, salt: &[u8]) -> u8 {
+    on_square(lent, count, counter, salt, square::rounds_back)
+}
+
+fn on_square(
+    lent: &mut [u8],
+    count: u64,
+    counter: u64,
+    salt: &[u8],
+    work: fn(&mut Square, u64, u64, &Word),
+) -> u8 {
+    if salt.len() != 16 {
+        return refusal::SALT;
+    }
+    let Ok(lent) = <&mut Square>::try_from(lent) else {
+        return refusal::SHAPE;
+    };
+    if count != family::SHORT.rounds && count != family::LONG.rounds {
+        return refusal::SHAPE;
+    }
+    if counter > COUNTER_LIMIT {
+        return refusal::COUNTER;
+    }
+    work(lent, count, counter, &word(salt));
+    refusal::NONE
+}
+
+/// Takes a block into a lent chaining value. Refusals 2, 6, 7.
+pub fn compress(chaining: &mut [u8], block: &[u8], counter: u64, salt: &[u8]) -> u8 {
+    if salt.len() != 16 {
+        return refusal::SALT;
+    }
+    if family::of_sizes(chaining.len(), block.len()).is_none() {
+        return refusal::SHAPE;
+    }
+    if counter > COUNTER_LIMIT {
+        return refusal::COUNTER;
+    }
+    compression::compress(chaining, block, counter, &word(salt));
+    refusal::NONE
+}
+
+/// The fingerprint of a steering table: the 256-bit digest of all bodies joined
+/// in order, into the first 32 bytes of `out`. Answers with a number and a
+/// place, which is 0 except with 9 and 10. Refusals 2, 5, 8, 9, 10.
+pub fn fingerprint(salt: &[u8], table: &[u8], out: &mut [u8]) -> (u8, u64) {
+    if salt.len() != 16 {
+        return (refusal::SALT, 0);
+    }
+    if out.len() < FINGERPRINT {
+        return (refusal::ROOM, 0);
+    }
+    let bodies = match table::read(table) {
+        Ok(records) => table::bodies(&records),
+        Err(refused) => return refused,
+    };
+    (digest(256, salt, &bodies, out), 0)
+}
+
+fn word(salt: &[u8]) -> Word {
+    salt.try_into().expect("a salt of 16 bytes")
+}
+
+#[cfg(test)]
+mod tests;

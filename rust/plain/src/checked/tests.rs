@@ -1,0 +1,123 @@
+use super::*;
+
+const SALT: [u8; 16] = [9; 16];
+
+#[test]
+fn digest_fills_only_its_room() {
+    let mut out = [0xee; 40];
+    assert_eq!(digest(256, &SALT, b"abc", &mut out), 0);
+    assert_eq!(out[..32], crate::digest::digest(256, &SALT, b"abc"));
+    assert_eq!(out[32..], [0xee; 8]);
+}
+
+#[test]
+fn digest_refuses_the_lowest_number_and_writes_nothing() {
+    let mut out = [0xee; 32];
+    for (bits, salt, room, number) in [
+        (0, 16, 32, 1),
+        (120, 0, 0, 1),
+        (257, 16, 32, 1),
+        (520, 17, 32, 1),
+        (256, 15, 0, 2),
+        (256, 17, 32, 2),
+        (256, 16, 31, 5),
+        (264, 16, 32, 5),
+    ] {
+        let refused = digest(bits, &[9; 17][..salt], b"abc", &mut out[..room]);
+        assert_eq!(refused, number);
+    }
+    assert_eq!(out, [0xee; 32]);
+}
+
+#[test]
+fn digest_refuses_messages_that_no_memory_holds() {
+    assert_eq!(digest_refusal(256, 16, (1 << 61) - 21, 32), 0);
+    assert_eq!(digest_refusal(256, 16, (1 << 61) - 20, 32), 4);
+    assert_eq!(digest_refusal(256, 16, u64::MAX, 31), 4);
+    assert_eq!(digest_refusal(256, 15, u64::MAX, 31), 2);
+    assert_eq!(digest_refusal(100, 15, u64::MAX, 31), 1);
+}
+
+#[test]
+fn rounds_refuse_the_lowest_number_and_write_nothing() {
+    let mut lent = [0xee; 257];
+    for (size, count, counter, salt, number) in [
+        (256, 8, 0, 15, 2),
+        (255, 9, u64::MAX, 17, 2),
+        (0, 8, 0, 16, 6),
+        (255, 8, 0, 16, 6),
+        (257, 10, u64::MAX, 16, 6),
+        (256, 0, 0, 16, 6),
+        (256, 9, u64::MAX, 16, 6),
+        (256, 8, u64::MAX - 159, 16, 7),
+        (256, 10, u64::MAX, 16, 7),
+    ] {
+        for work in [rounds, rounds_back] {
+            let refused = work(&mut lent[..size], count, counter, &[9; 17][..salt]);
+            assert_eq!(refused, number);
+            assert_eq!(lent, [0xee; 257]);
+        }
+    }
+}
+
+#[test]
+fn rounds_do_the_work_of_the_square() {
+    for count in [8, 10] {
+        let mut lent = [0xee; 256];
+        let mut expected = lent;
+        square::rounds(&mut expected, count, u64::MAX - 160, &SALT);
+        assert_eq!(rounds(&mut lent, count, u64::MAX - 160, &SALT), 0);
+        assert_eq!(lent, expected);
+        assert_eq!(rounds_back(&mut lent, count, u64::MAX - 160, &SALT), 0);
+        assert_eq!(lent, [0xee; 256]);
+    }
+}
+
+#[test]
+fn compress_refuses_the_lowest_number_and_writes_nothing() {
+    let mut chaining = [0xee; 192];
+    let block = [3; 193];
+    for (a, b, counter, salt, number) in [
+        (64, 192, 0, 0, 2),
+        (63, 192, u64::MAX, 15, 2),
+        (64, 193, 0, 16, 6),
+        (128, 192, 0, 16, 6),
+        (192, 64, 0, 16, 6),
+        (0, 0, u64::MAX, 16, 6),
+        (64, 192, u64::MAX - 159, 16, 7),
+        (128, 128, u64::MAX, 16, 7),
+    ] {
+        let refused = compress(&mut chaining[..a], &block[..b], counter, &[9; 17][..salt]);
+        assert_eq!(refused, number);
+        assert_eq!(chaining, [0xee; 192]);
+    }
+    assert_eq!(compress(&mut chaining[..64], &block[..192], 0, &SALT), 0);
+    assert_ne!(chaining[..64], [0xee; 64]);
+}
+
+#[test]
+fn fingerprint_is_the_digest_of_the_bodies() {
+    let mut out = [0xee; 33];
+    let given = fingerprint(&SALT, &[2, 0, 0x3c, 3, 0, 0x41], &mut out);
+    assert_eq!(given, (0, 0));
+    let bodies = [0, 0x3c, 0, 0x41];
+    assert_eq!(out[..32], crate::digest::digest(256, &SALT, &bodies));
+    assert_eq!(out[32], 0xee);
+}
+
+#[test]
+fn fingerprint_refuses_the_lowest_number_and_writes_nothing() {
+    let mut out = [0xee; 32];
+    let long = [0xff; 4097];
+    for (salt, table, room, given) in [
+        (15, &long[..], 0, (2, 0)),
+        (16, &long, 31, (5, 0)),
+        (16, &long, 32, (8, 0)),
+        (16, &[2, 0, 1, 7], 32, (9, 3)),
+        (16, &[2, 0, 1, 2, 0], 32, (10, 3)),
+    ] {
+        let refused = fingerprint(&SALT[..salt], table, &mut out[..room]);
+        assert_eq!(refused, given);
+        assert_eq!(out, [0xee; 32]);
+    }
+}

@@ -1,0 +1,23 @@
+//! ECHO 2.0 and the steering tables above it, byte by byte.
+//!
+//! ECHO follows Part I, sections 1 to 4, of the ECHO paper; the AES round
+//! follows FIPS 197. Nothing here is shared with the proved library, so where
+//! both give one answer, neither has misread the paper alone.
+//!
+//! The modules other than [`checked`] take inputs that are admitted and panic
+//! on others. [`checked`] and [`table`] answer with refusal numbers instead.
+
+#![forbid(unsafe_code)]
+
+pub mod aes;
+pub mod checked;
+pub mod compression;
+pub mod digest;
+pub mod family;
+pub mod field;
+pub mod hex;
+pub mod padding;
+pub mod refusal;
+pub mod square;
+pub mod substitution;
+pub mod table;

@@ -1,0 +1,46 @@
+//! Refusal numbers and the limits they guard. Where several apply, the lowest
+//! is given; 9 and 10 are decided by the record nearer the front.
+
+/// No refusal: the call did its work.
+pub const NONE: u8 = 0;
+/// The digest length is not admitted.
+pub const DIGEST_LENGTH: u8 = 1;
+/// The salt is not 16 bytes.
+pub const SALT: u8 = 2;
+/// The message is over [`MESSAGE_LIMIT`].
+pub const MESSAGE: u8 = 4;
+/// The room for the output is too small.
+pub const ROOM: u8 = 5;
+/// Sizes of no family, no square, a round count of no family, or a reading
+/// place past the table's end.
+pub const SHAPE: u8 = 6;
+/// The starting counter is over [`COUNTER_LIMIT`].
+pub const COUNTER: u8 = 7;
+/// The table is over [`TABLE_LIMIT`].
+pub const TABLE: u8 = 8;
+/// A kind byte that no record has.
+pub const KIND: u8 = 9;
+/// A record cut short by the table's end.
+pub const CUT_SHORT: u8 = 10;
+
+/// The most bytes of a message. One more would bring its bit count to
+/// 2^64 - 160, from where the paper's section 3.1 asks for the longer counter.
+pub const MESSAGE_LIMIT: u64 = (1 << 61) - 21;
+/// The highest starting counter: the last of ten rounds' 160 words then uses
+/// 2^64 - 2, and the counter never wraps.
+pub const COUNTER_LIMIT: u64 = u64::MAX - 160;
+/// The most bytes of a table.
+pub const TABLE_LIMIT: usize = 4096;
+
+#[cfg(test)]
+mod tests {
+    use super::*;
+
+    #[test]
+    fn limits_in_powers_of_two() {
+        let whole = 1u128 << 64;
+        assert_eq!(u128::from(COUNTER_LIMIT), whole - 161);
+        assert!(8 * u128::from(MESSAGE_LIMIT) < whole - 160);
+        assert_eq!(8 * (u128::from(MESSAGE_LIMIT) + 1), whole - 160);
+    }
+}

@@ -7,3 +7,6 @@ pub mod Words
 pub mod Columns
 pub mod Compression
 pub mod Marked
+pub mod Counting
+pub mod Families
+pub mod Sessions

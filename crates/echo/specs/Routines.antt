@@ -1,9 +1,10 @@
 -- What the public routines answer and leave behind, on every input. Assumes nothing.
-use mathlib.Core.Bool.{Bool, true, false, not, _&&_, _||_}
+use mathlib.Core.Bool.{not, _||_}
 use mathlib.Core.List.{List, [], _∷_}
 use Prim.Native.Nat.{ℕ}
 use lib.Dec.{eqb}
 use lib.ListN.{length}
+use Rattle.echo.specs.Families.{roundCount, sizesFit}
 use Rattle.echo.specs.Refusals.{_when_, counterTooHigh, firstOf, noSalt, unless}
 use Rattle.echo.specs.Square.{keysFrom, rounds, roundsBack}
 use Rattle.echo.specs.Compression.{compress}
@@ -27,17 +28,6 @@ roundsBackLeave square count counter salt =
     unless (roundsRefusal (length square) count counter (length salt)) (roundsBack count (keysFrom counter) salt square) square
 
 -- ---- compression
-
--- the two families: chaining variables of 64 and blocks of 192 bytes with 8 rounds, 128 and 128 with 10
-abbrev pub sizesFit : ℕ → ℕ → Bool
-sizesFit chaining block = eqb chaining 64 && eqb block 192 || eqb chaining 128 && eqb block 128
-
-abbrev pub roundCount : ℕ → ℕ
-roundCount chaining = countFor (eqb chaining 64)
-  where
-    countFor : Bool → ℕ
-    countFor true = 8
-    countFor false = 10
 
 unfoldable pub compressRefusal : ℕ → ℕ → ℕ → ℕ → ℕ
 compressRefusal chainingLength blockLength counter saltLength =

@@ -5,7 +5,8 @@ ghost use lib.ListN.{length};
 ghost use Rattle.aes_round.specs.Bytes.{xorBytes};
 ghost use Rattle.echo.specs.Compression.{fold};
 ghost use Rattle.echo.specs.Compression.{compress as Compression·compress};
-ghost use Rattle.echo.specs.Routines.{compressLeaves, compressRefusal, roundCount};
+ghost use Rattle.echo.specs.Families.{roundCount};
+ghost use Rattle.echo.specs.Routines.{compressLeaves, compressRefusal};
 ghost use Rattle.echo.specs.Square.{keysFrom};
 use super::lent::copy_in;
 use super::lent::sixteen;
@@ -62,7 +63,7 @@ pub(crate) fn compress_in(
 }
 
 // The rounds of the family that the size of the chaining variable tells.
-fn round_count(chaining: usize) -> u64
+pub(crate) fn round_count(chaining: usize) -> u64
     ensures { λ r. ⌜ r ≡ roundCount chaining ⌝ }
 {
     if chaining == 64 { 8 } else { 10 }

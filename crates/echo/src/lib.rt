@@ -4,9 +4,12 @@ mod lent;
 mod mix_columns;
 mod refusals;
 mod run;
+mod session;
 mod shift_rows;
 mod sub_words;
 
 pub use compression::compress;
 pub use run::rounds;
 pub use run::rounds_back;
+pub use session::Answer;
+pub use session::Session;

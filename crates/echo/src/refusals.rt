@@ -2,7 +2,8 @@
 ghost use mathlib.Core.Bool.{_||_};
 ghost use mathlib.Core.Path.{_≡_};
 ghost use lib.Dec.{eqb};
-ghost use Rattle.echo.specs.Routines.{compressRefusal, roundsRefusal, sizesFit};
+ghost use Rattle.echo.specs.Families.{sizesFit};
+ghost use Rattle.echo.specs.Routines.{compressRefusal, roundsRefusal};
 
 // The highest starting counter, 2^64 - 161: the 160 words of ten rounds count on from it, and the last stays below 2^64.
 const LAST_COUNTER: u64 = 0xffff_ffff_ffff_ff5f;

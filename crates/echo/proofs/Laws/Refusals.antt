@@ -8,7 +8,8 @@ use native.Mathlib.Omega.{arith}
 use borrow.Author.Tests.{eq-eqb, eqb-true, le-ltb, lt-ltb, ltb-false, ne-eqb, not-false}
 use lib.Dec.{eqb, ltb}
 use Rattle.echo.specs.Refusals.{Refusal, _when_, firstOf, unless}
-use Rattle.echo.specs.Routines.{compressRefusal, roundCount, roundsRefusal, sizesFit}
+use Rattle.echo.specs.Families.{roundCount, sizesFit}
+use Rattle.echo.specs.Routines.{compressRefusal, roundsRefusal}
 
 -- with a chaining variable of 64 bytes the block decides
 pub sizes-64 : (c b : ℕ) → c ≡ 64 → eqb b 192 ≡ sizesFit c b

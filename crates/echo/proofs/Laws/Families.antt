@@ -1,0 +1,29 @@
+-- The sizes of the two families. Assumes nothing.
+use mathlib.Core.Path.{_≡_, refl, sym, subst}
+use mathlib.Core.Bool.{Bool, true, false}
+use Prim.Native.Nat.{ℕ, _+_, _*_, _/_, _<_, _≤_}
+use native.Mathlib.Omega.{arith}
+use lib.Dec.{leb}
+use Rattle.echo.specs.Families.{blockSize, chainingSize, either, roundCount}
+
+-- what every user of the sizes needs to know of them
+pub record Sizes (c b : ℕ) : Type 0 where
+  pub some : 0 < c
+  pub half : 64 ≤ c
+  pub most : c ≤ 128
+  pub block-least : 128 ≤ b
+  pub block-most : b ≤ 192
+  pub square : c + b ≡ 256
+  pub parts : 256 ≡ c * (256 / c)
+  pub rounds-most : roundCount c ≤ 10
+
+pub sizes : (h : ℕ) → Sizes (chainingSize h) (blockSize h)
+unfolding chainingSize blockSize
+sizes h = by (leb h 256)
+  where
+    by : (t : Bool) → Sizes (either t 64 128) (either t 192 128)
+    by true = record { some = omega arith; half = omega arith; most = omega arith; block-least = omega arith; block-most = omega arith; square = refl; parts = refl; rounds-most = omega arith }
+    by false = record { some = omega arith; half = omega arith; most = omega arith; block-least = omega arith; block-most = omega arith; square = refl; parts = refl; rounds-most = omega arith }
+
+pub block-pos : (h : ℕ) → 0 < blockSize h
+block-pos h = let S = sizes h in omega arith

@@ -1,0 +1,139 @@
+-- Sessions: which records are one, and what opening, adding and reading answer. Assumes nothing.
+use mathlib.Core.Bool.{Bool, true, false, not, _&&_, _||_}
+use mathlib.Core.List.{List, [], _∷_, _++_}
+use Prim.Native.Nat.{ℕ, _+_, _*_, _-_, _/_, _%_, _^_}
+use lib.Dec.{eqb, leb, ltb}
+use lib.ListN.{drop, length, replicate, set, take}
+use Rattle.echo.specs.declared.session.Answer.{Answer}
+use Rattle.echo.specs.declared.session.Session.{Session}
+use Rattle.echo.specs.Compression.{compress}
+use Rattle.echo.specs.Digest.{block, blockCount, counterAt, digestOf, initial, iterate}
+use Rattle.echo.specs.Families.{blockSize, chainingSize, either, roundCount}
+use Rattle.echo.specs.Padding.{padding}
+use Rattle.echo.specs.Refusals.{_when_, firstOf, noSalt, unless}
+use Rattle.echo.specs.Square.{keysFrom}
+
+-- the most bytes of a message: its bit count stays below 2^64 - 160
+abbrev pub limit : ℕ
+limit = 2 ^ 61 - 21
+
+-- h is admitted: a multiple of 8 from 128 to 512
+unfoldable pub admitted : ℕ → Bool
+admitted h = leb 128 h && (leb h 512 && eqb (h % 8) 0)
+
+-- every byte of a list is zero
+unfoldable pub allZero : List ℕ → Bool
+allZero [] = true
+allZero (x ∷ xs) = eqb x 0 && allZero xs
+
+-- h is admitted, the count is at most the limit, waiting bytes beyond those in use are zero, and so is the chaining room that the family
+-- doesn't use
+unfoldable pub isSession : Session → Bool
+isSession s =
+    admitted (s .bits)
+    && (leb (s .taken) limit
+    && (allZero (drop (s .taken % blockSize (s .bits)) (s .waiting)) && allZero (drop (chainingSize (s .bits)) (s .chaining))))
+
+-- a session of its parts
+abbrev pub made : ℕ → List ℕ → List ℕ → ℕ → List ℕ → Session
+made bits salt chaining taken waiting = record { bits = bits; salt = salt; chaining = chaining; taken = taken; waiting = waiting }
+
+-- ---- opening
+
+-- all zero, and no session
+abbrev pub blank : Session
+blank = record { bits = 0; salt = replicate 16 0; chaining = replicate 128 0; taken = 0; waiting = replicate 192 0 }
+
+abbrev pub opened : ℕ → List ℕ → Session
+opened h salt = record {
+  bits = h;
+  salt = salt;
+  chaining = initial (chainingSize h) h ++ replicate (128 - chainingSize h) 0;
+  taken = 0;
+  waiting = replicate 192 0;
+}
+
+unfoldable pub openRefusal : ℕ → ℕ → ℕ
+openRefusal h saltLength = firstOf ((1 when not (admitted h)) ∷ (2 when noSalt saltLength) ∷ [])
+
+unfoldable pub openAnswer : ℕ → List ℕ → Answer
+openAnswer h salt =
+    let refusal = openRefusal h (length salt) in
+    record { refusal = refusal; session = unless refusal (opened h salt) blank }
+
+-- ---- adding
+
+-- the waiting block with one byte more, behind those in use
+abbrev pub waitingWith : Session → ℕ → List ℕ
+waitingWith s x = set (s .waiting) (s .taken % blockSize (s .bits)) x
+
+-- chaining room whose variable has taken a block with a counter
+abbrev pub compressed : ℕ → List ℕ → List ℕ → ℕ → List ℕ → List ℕ
+compressed h salt chaining counter m =
+    compress (chainingSize h) (roundCount (chainingSize h)) (keysFrom counter) salt (take (chainingSize h) chaining) m ++ drop (chainingSize h) chaining
+
+-- one byte that fills the waiting block: it is compressed, with the number of message bits taken by its end as its counter
+abbrev pub filledBy : Session → ℕ → Session
+filledBy s x = record {
+  bits = s .bits;
+  salt = s .salt;
+  chaining = compressed (s .bits) (s .salt) (s .chaining) (8 * (s .taken + 1)) (take (blockSize (s .bits)) (waitingWith s x));
+  taken = s .taken + 1;
+  waiting = replicate 192 0;
+}
+
+abbrev pub longerBy : Session → ℕ → Session
+longerBy s x = record { bits = s .bits; salt = s .salt; chaining = s .chaining; taken = s .taken + 1; waiting = waitingWith s x }
+
+-- a block is compressed as soon as it is full
+unfoldable pub addByte : Session → ℕ → Session
+addByte s x = either (eqb (s .taken % blockSize (s .bits) + 1) (blockSize (s .bits))) (filledBy s x) (longerBy s x)
+
+unfoldable pub addBytes : Session → List ℕ → Session
+addBytes s [] = s
+addBytes s (x ∷ xs) = addBytes (addByte s x) xs
+
+unfoldable pub addRefusal : Session → ℕ → ℕ
+addRefusal s pieceLength = firstOf ((3 when not (isSession s)) ∷ (4 when ltb limit (s .taken + pieceLength)) ∷ [])
+
+unfoldable pub addAnswer : Session → List ℕ → Answer
+addAnswer s piece =
+    let refusal = addRefusal s (length piece) in
+    record { refusal = refusal; session = unless refusal (addBytes s piece) s }
+
+-- ---- reading
+
+-- the paper's iteration, continued from the chaining value, n and the waiting bytes, over the blocks that are left
+unfoldable pub sessionDigest : Session → List ℕ
+sessionDigest s =
+    let b = blockSize (s .bits) in
+    let c = chainingSize (s .bits) in
+    let n = s .taken in
+    take (s .bits / 8)
+    (iterate c (roundCount c) (s .salt) (take c (s .chaining)) (block b (take (n % b) (s .waiting) ++ padding b (s .bits) n)) (λ i. counterAt b n (n / b + i))
+    (blockCount b n - n / b))
+
+unfoldable pub readRefusal : Session → ℕ → ℕ
+readRefusal s room = firstOf ((3 when not (isSession s)) ∷ (5 when ltb room (s .bits / 8)) ∷ [])
+
+unfoldable pub readAnswer : Session → ℕ → Answer
+readAnswer s room = record { refusal = readRefusal s room; session = s }
+
+-- a digest fills the first h/8 bytes of the room; those behind stay
+unfoldable pub readLeaves : Session → List ℕ → List ℕ
+readLeaves s room = unless (readRefusal s (length room)) (sessionDigest s ++ drop (s .bits / 8) room) room
+
+-- ---- the digest at once
+
+unfoldable pub digestRefusal : ℕ → ℕ → ℕ → ℕ → ℕ
+digestRefusal h saltLength messageLength room =
+    firstOf
+    ((1 when not (admitted h))
+    ∷ (2 when noSalt saltLength)
+    ∷ (4 when ltb limit messageLength)
+    ∷ (5 when ltb room (h / 8))
+    ∷ [])
+
+unfoldable pub digestLeaves : ℕ → List ℕ → List ℕ → List ℕ → List ℕ
+digestLeaves h salt message room =
+    unless (digestRefusal h (length salt) (length message) (length room)) (digestOf h salt message ++ drop (h / 8) room) room

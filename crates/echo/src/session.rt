@@ -1,0 +1,212 @@
+// Sessions: a digest over the pieces of a message.
+ghost use mathlib.Core.List.{_++_};
+ghost use mathlib.Core.Path.{_≡_};
+ghost use Prim.Native.Nat.{_+_, _-_, _%_, _<_, _≤_, _^_};
+ghost use lib.ListN.{drop, length, replicate, take};
+ghost use Rattle.echo.specs.Families.{blockSize, chainingSize};
+ghost use Rattle.echo.specs.Session.{addAnswer, addByte, addBytes, allZero, compressed, digestLeaves, digestRefusal, isSession, limit, made, openAnswer, readAnswer, readLeaves};
+ghost use Rattle.echo.specs.Session.{admitted as Session·admitted};
+use super::compression::compress_in;
+use super::compression::round_count;
+use super::lent::copy_in;
+use super::lent::sixteen;
+
+// The most bytes of a message, 2^61 - 21.
+const LIMIT: u64 = 2_305_843_009_213_693_931;
+
+// A digest that is under way. It is passed by value, and each call hands it back.
+pub struct Session {
+    // the digest length
+    pub bits: u64,
+    pub salt: [u8; 16],
+    // the chaining variable: the first 64 bytes up to 256 bits, else all
+    pub chaining: [u8; 128],
+    // the message bytes so far
+    pub taken: u64,
+    // those that don't fill a block yet, and zeros behind them
+    pub waiting: [u8; 192],
+}
+
+// What a call answers: a refusal number, 0 for none, and the session.
+pub struct Answer {
+    pub refusal: u8,
+    pub session: Session,
+}
+
+fn admitted(bits: u64) -> bool
+    ensures { λ r. ⌜ r ≡ Session·admitted bits ⌝ }
+{
+    if bits < 128 {
+        return false;
+    }
+    if 512 < bits {
+        return false;
+    }
+    bits % 8 == 0
+}
+
+fn chaining_size(bits: u64) -> usize
+    ensures { λ r. ⌜ r ≡ chainingSize bits ⌝ }
+{
+    if bits <= 256 { 64 } else { 128 }
+}
+
+fn block_size(bits: u64) -> usize
+    ensures { λ r. ⌜ r ≡ blockSize bits ⌝ }
+{
+    if bits <= 256 { 192 } else { 128 }
+}
+
+// Whether every byte from the place `at` on is zero.
+fn zeros_from(bytes: &[u8], at: usize) -> bool
+    requires { ⌜ at ≤ length (now bytes) ⌝ }
+    ensures { λ r. ⌜ r ≡ allZero (drop at (now (bytes .entry))) ⌝ }
+{
+    let mut i = at;
+    while i < bytes.len() {
+        if bytes[i] != 0 {
+            return false;
+        }
+        i += 1;
+    }
+    true
+}
+
+fn clear(bytes: &mut [u8])
+    ensures { λ _. ⌜ now (bytes .exit) ≡ replicate (length (now (bytes .entry))) 0 ⌝ }
+{
+    let n = bytes.len();
+    for i in 0..n {
+        bytes[i] = 0;
+    }
+}
+
+// Compresses the waiting block, by the family's sizes.
+fn compress_waiting(chaining: &mut [u8], waiting: &[u8], bits: u64, counter: u64, salt: [u8; 16])
+    requires { ⌜ length (now chaining) ≡ 128 ⌝ }
+    requires { ⌜ length (now waiting) ≡ 192 ⌝ }
+    requires { ⌜ counter ≤ 2 ^ 64 - 161 ⌝ }
+    ensures { λ _. ⌜ now (chaining .exit) ≡ compressed bits salt (now (chaining .entry)) counter (take (blockSize bits) (now (waiting .entry))) ⌝ }
+{
+    let c = chaining_size(bits);
+    let b = block_size(bits);
+    compress_in(
+        &mut chaining[..c],
+        &waiting[..b],
+        round_count(c),
+        counter,
+        salt,
+    );
+}
+
+// One byte more, over the lent parts of a session, `at` the waiting bytes in use. Answers how many are in use then.
+fn put(
+    chaining: &mut [u8],
+    waiting: &mut [u8],
+    at: usize,
+    x: u8,
+    bits: u64,
+    taken: u64,
+    salt: [u8; 16],
+) -> usize
+    requires { ⌜ length (now chaining) ≡ 128 ⌝ }
+    requires { ⌜ length (now waiting) ≡ 192 ⌝ }
+    requires { ⌜ at ≡ taken % blockSize bits ⌝ }
+    requires { ⌜ taken < limit ⌝ }
+    ensures { λ r. ⌜ r ≡ (taken + 1) % blockSize bits ⌝ }
+    ensures { λ _. ⌜ made bits salt (now (chaining .exit)) (taken + 1) (now (waiting .exit)) ≡ addByte (made bits salt (now (chaining .entry)) taken (now (waiting .entry))) x ⌝ }
+{
+    let b = block_size(bits);
+    waiting[at] = x;
+    if at + 1 < b {
+        return at + 1;
+    }
+    compress_waiting(chaining, waiting, bits, 8 * (taken + 1), salt);
+    clear(waiting);
+    0
+}
+
+// A piece, byte by byte.
+fn absorb(
+    chaining: &mut [u8],
+    waiting: &mut [u8],
+    piece: &[u8],
+    bits: u64,
+    taken: u64,
+    salt: [u8; 16],
+)
+    requires { ⌜ length (now chaining) ≡ 128 ⌝ }
+    requires { ⌜ length (now waiting) ≡ 192 ⌝ }
+    requires { ⌜ taken + length (now piece) ≤ limit ⌝ }
+    ensures { λ _. ⌜ made bits salt (now (chaining .exit)) (taken + length (now (piece .entry))) (now (waiting .exit)) ≡ addBytes (made bits salt (now (chaining .entry)) taken (now (waiting .entry))) (now (piece .entry)) ⌝ }
+{
+    let mut at = (taken % (block_size(bits) as u64)) as usize;
+    for i in 0..piece.len() {
+        at = put(
+            chaining,
+            waiting,
+            at,
+            piece[i],
+            bits,
+            taken + i as u64,
+            salt,
+        );
+    }
+}
+
+impl Session {
+    // Whether the record is a session.
+    pub fn is_session(self) -> bool
+        ensures { λ r. ⌜ r ≡ isSession self ⌝ }
+    {
+        let bits = self.bits;
+        let taken = self.taken;
+        if !admitted(bits) {
+            return false;
+        }
+        if LIMIT < taken {
+            return false;
+        }
+        let at = (taken % (block_size(bits) as u64)) as usize;
+        let w = self.waiting;
+        if !zeros_from(&w, at) {
+            return false;
+        }
+        let v = self.chaining;
+        zeros_from(&v, chaining_size(bits))
+    }
+
+    // The session with the piece joined to its message, or the same with 3 (no session) or 4 (too long).
+    pub fn add(self, piece: &[u8]) -> Answer
+        ensures { λ r. ⌜ r ≡ addAnswer self (now (piece .entry)) ⌝ }
+    {
+        if !self.is_session() {
+            return Answer {
+                refusal: 3,
+                session: self,
+            };
+        }
+        let taken = self.taken;
+        if LIMIT - taken < piece.len() as u64 {
+            return Answer {
+                refusal: 4,
+                session: self,
+            };
+        }
+        let bits = self.bits;
+        let salt = self.salt;
+        let mut v = self.chaining;
+        let mut w = self.waiting;
+        absorb(&mut v, &mut w, piece, bits, taken, salt);
+        Answer {
+            refusal: 0,
+            session: Session {
+                bits: bits,
+                salt: salt,
+                chaining: v,
+                taken: taken + piece.len() as u64,
+                waiting: w,
+            },
+        }
+    }
+}

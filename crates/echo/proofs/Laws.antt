@@ -10,3 +10,6 @@ pub mod Marked
 pub mod Counting
 pub mod Families
 pub mod Sessions
+pub mod Ends
+pub mod Stream
+pub mod Opened

@@ -104,14 +104,16 @@ addAnswer s piece =
 -- ---- reading
 
 -- the paper's iteration, continued from the chaining value, n and the waiting bytes, over the blocks that are left
-unfoldable pub sessionDigest : Session → List ℕ
-sessionDigest s =
+unfoldable pub finalChaining : Session → List ℕ
+finalChaining s =
     let b = blockSize (s .bits) in
     let c = chainingSize (s .bits) in
     let n = s .taken in
-    take (s .bits / 8)
-    (iterate c (roundCount c) (s .salt) (take c (s .chaining)) (block b (take (n % b) (s .waiting) ++ padding b (s .bits) n)) (λ i. counterAt b n (n / b + i))
-    (blockCount b n - n / b))
+    iterate c (roundCount c) (s .salt) (take c (s .chaining)) (block b (take (n % b) (s .waiting) ++ padding b (s .bits) n)) (λ i. counterAt b n (n / b + i))
+    (blockCount b n - n / b)
+
+unfoldable pub sessionDigest : Session → List ℕ
+sessionDigest s = take (s .bits / 8) (finalChaining s)
 
 unfoldable pub readRefusal : Session → ℕ → ℕ
 readRefusal s room = firstOf ((3 when not (isSession s)) ∷ (5 when ltb room (s .bits / 8)) ∷ [])

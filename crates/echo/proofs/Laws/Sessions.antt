@@ -58,7 +58,7 @@ module _ (s : Session) where
       is-clear w = rw (a, le-leb (s .taken) limit n, w)
 
 -- a test that came out true came through each of its parts
-both : (a b : Bool) → (a && b) ≡ true → (a ≡ true) × (b ≡ true)
+pub both : (a b : Bool) → (a && b) ≡ true → (a ≡ true) × (b ≡ true)
 both true b e = (refl, e)
 both false b e = absurd (true≢false (sym e))
 

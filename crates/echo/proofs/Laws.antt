@@ -13,3 +13,4 @@ pub mod Sessions
 pub mod Ends
 pub mod Stream
 pub mod Opened
+pub mod AtOnce

@@ -2,12 +2,13 @@
 ghost use mathlib.Core.Bool.{true};
 ghost use mathlib.Core.List.{_++_};
 ghost use mathlib.Core.Path.{_≡_};
-ghost use Prim.Native.Nat.{_+_, _*_, _-_, _%_, _<_, _≤_, _^_};
+ghost use Prim.Native.Nat.{_+_, _*_, _-_, _/_, _%_, _<_, _≤_, _^_};
 ghost use lib.ListN.{drop, length, replicate, take};
 ghost use lib.Dec.{eqb};
+ghost use Rattle.echo.specs.Digest.{initial as Digest·initial};
 ghost use Rattle.echo.specs.Families.{blockSize, chainingSize, either};
 ghost use Rattle.echo.specs.Numbers.{littleEndian};
-ghost use Rattle.echo.specs.Session.{addAnswer, addByte, addBytes, allZero, compressed, digestLeaves, digestRefusal, finalChaining, isSession, limit, made, openAnswer, readAnswer, readLeaves};
+ghost use Rattle.echo.specs.Session.{addAnswer, addByte, addBytes, allZero, blank, compressed, digestLeaves, digestRefusal, finalChaining, isSession, limit, made, openAnswer, readAnswer, readLeaves};
 ghost use Rattle.echo.specs.Session.{admitted as Session·admitted};
 use super::compression::compress_in;
 use super::compression::round_count;
@@ -58,6 +59,33 @@ fn block_size(bits: u64) -> usize
     ensures { λ r. ⌜ r ≡ blockSize bits ⌝ }
 {
     if bits <= 256 { 192 } else { 128 }
+}
+
+// Byte i of the sixteen of the digest length, the least significant first.
+fn length_byte(bits: u64, i: usize) -> u8
+    requires { ⌜ bits ≤ 512 ⌝ }
+    ensures { λ r. ⌜ r ≡ bits / 256 ^ i % 256 ⌝ }
+{
+    if i == 0 {
+        return (bits % 256) as u8;
+    }
+    if i == 1 {
+        return (bits / 256 % 256) as u8;
+    }
+    0
+}
+
+// The initial chaining variable, in room for the longer one: each word is the digest length.
+fn initial(bits: u64) -> [u8; 128]
+    requires { ⌜ bits ≤ 512 ⌝ }
+    ensures { λ r. ⌜ r ≡ Digest·initial (chainingSize bits) bits ++ replicate (128 - chainingSize bits) 0 ⌝ }
+{
+    let c = chaining_size(bits);
+    let mut v = [0u8; 128];
+    for k in 0..c {
+        v[k] = length_byte(bits, k % 16);
+    }
+    v
 }
 
 // Whether every byte from the place `at` on is zero.
@@ -239,6 +267,52 @@ fn finish(chaining: &mut [u8], waiting: &mut [u8], bits: u64, taken: u64, salt: 
 }
 
 impl Session {
+    // All zero, and no session.
+    fn blank() -> Self
+        ensures { λ r. ⌜ r ≡ blank ⌝ }
+    {
+        Session {
+            bits: 0,
+            salt: [0; 16],
+            chaining: [0; 128],
+            taken: 0,
+            waiting: [0; 192],
+        }
+    }
+
+    // A session for digests of so many bits under a salt; or the blank one with 1 (bits not admitted) or 2 (salt not 16 bytes).
+    pub fn open(bits: u64, salt: &[u8]) -> Answer
+        ensures { λ r. ⌜ r ≡ openAnswer bits (now (salt .entry)) ⌝ }
+    {
+        if !admitted(bits) {
+            let none = Session::blank();
+            return Answer {
+                refusal: 1,
+                session: none,
+            };
+        }
+        if salt.len() != 16 {
+            let none = Session::blank();
+            return Answer {
+                refusal: 2,
+                session: none,
+            };
+        }
+        let own = sixteen(salt, 0);
+        let v = initial(bits);
+        let opened = Session {
+            bits: bits,
+            salt: own,
+            chaining: v,
+            taken: 0,
+            waiting: [0; 192],
+        };
+        Answer {
+            refusal: 0,
+            session: opened,
+        }
+    }
+
     // Whether the record is a session.
     pub fn is_session(self) -> bool
         ensures { λ r. ⌜ r ≡ isSession self ⌝ }
@@ -291,6 +365,38 @@ impl Session {
                 taken: taken + piece.len() as u64,
                 waiting: w,
             },
+        }
+    }
+
+    // The digest of the message so far, at the front of `out`, whose bytes behind it stay; or 3 (no session) or 5 (too little room) and
+    // nothing written. The session is handed back as it came.
+    pub fn read(self, out: &mut [u8]) -> Answer
+        ensures answer { λ r. ⌜ r ≡ readAnswer self (length (now (out .entry))) ⌝ }
+        ensures left { λ _. ⌜ now (out .exit) ≡ readLeaves self (now (out .entry)) ⌝ }
+    {
+        if !self.is_session() {
+            return Answer {
+                refusal: 3,
+                session: self,
+            };
+        }
+        let bits = self.bits;
+        let n = (bits / 8) as usize;
+        if out.len() < n {
+            return Answer {
+                refusal: 5,
+                session: self,
+            };
+        }
+        let salt = self.salt;
+        let taken = self.taken;
+        let mut v = self.chaining;
+        let mut w = self.waiting;
+        finish(&mut v, &mut w, bits, taken, salt);
+        copy_in(out, 0, &v[..n]);
+        Answer {
+            refusal: 0,
+            session: self,
         }
     }
 }

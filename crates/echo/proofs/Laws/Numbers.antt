@@ -92,3 +92,17 @@ module _ (bits count : ℕ) (h : count < 2 ^ 64) where
   lengths-are =
       ap (λ (l : List ℕ). bits % 0x100 ∷ bits / 0x100 % 0x100 ∷ l) (counter-key-is count ∙ sym (sixteen-of-eight count h))
       ∙ ap (λ (l : List ℕ). l ++ littleEndian 16 count) two
+
+-- the bytes of a digest length: two, and zeros
+pub length-byte-low : (h : ℕ) → h % 256 ≡ h / 256 ^ 0 % 256
+length-byte-low h = ap (λ (x : ℕ). x % 256) (sym (div-one h))
+
+pub length-byte-none : (h i : ℕ) → h ≤ 512 → (i ≡ 0 → ⊥) → (i ≡ 1 → ⊥) → 0 ≡ h / 256 ^ i % 256
+length-byte-none h i l a b =
+    sym (ap (λ (q : ℕ). q % 256) (div-eq-of-lt (lt-of-lt-of-le (less l) (pow-le-pow-right {n = 256} (lit< tt) (two a b)))))
+  where
+    two : (i ≡ 0 → ⊥) → (i ≡ 1 → ⊥) → 2 ≤ i
+    two a b = omega arith
+
+    less : h ≤ 512 → h < 256 ^ 2
+    less l = omega arith

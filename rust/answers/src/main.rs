@@ -6,6 +6,7 @@
 
 #![forbid(unsafe_code)]
 
+mod digest_cases;
 mod echo_cases;
 mod file;
 mod generator;
@@ -16,7 +17,10 @@ use std::process::ExitCode;
 
 /// The files of all programs. Each program's cases have a module of their own.
 fn files() -> Vec<File> {
-    [echo_cases::files()].into_iter().flatten().collect()
+    [echo_cases::files(), digest_cases::files()]
+        .into_iter()
+        .flatten()
+        .collect()
 }
 
 fn main() -> ExitCode {

@@ -1,0 +1,136 @@
+// Digests the messages of standard input's cases, at once or in pieces, and prints each digest in hex, or `refused N`.
+//
+// A case is 32 bytes: the digest length in bits (two bytes), the message's length (two), a seed, the piece size (two; 0 for the digest at
+// once), the salt's length, eight zeros and sixteen salt bytes. Numbers have their least significant byte first. The message's byte i is
+// seed + 29 i + 101 (i / 256), modulo 256. With pieces the digest is read after each piece, too: reading changes nothing.
+ghost use Prim.Native.Nat.{_≤_, _+_, _<_};
+ghost use mathlib.Core.Path.{_≡_};
+ghost use lib.ListN.{length};
+use echo::Session;
+use libc::STDIN_FILENO;
+use libc::STDOUT_FILENO;
+
+fn wide(x: u8) -> u64
+    ensures { λ r. ⌜ r < 256 ⌝ }
+{
+    x as u64
+}
+
+// The number in two bytes from the place `at` on.
+fn short(bytes: &[u8], at: usize) -> usize
+    requires { ⌜ at + 2 ≤ length (now bytes) ⌝ }
+    ensures { λ r. ⌜ r < 65536 ⌝ }
+{
+    (wide(bytes[at]) + 256 * wide(bytes[at + 1])) as usize
+}
+
+fn fill(message: &mut [u8], seed: u8)
+    requires { ⌜ length (now message) ≤ 1024 ⌝ }
+{
+    let n = message.len();
+    for i in 0..n {
+        message[i] = ((seed as usize + 29 * i + 101 * (i / 256)) % 256) as u8;
+    }
+}
+
+fn print_refused(number: u8) {
+    io::write_all(STDOUT_FILENO, b"refused ");
+    io::print_decimal(STDOUT_FILENO, number as u64);
+    io::write_all(STDOUT_FILENO, b"\n");
+}
+
+fn print_digest(digest: &[u8], size: usize)
+    requires { ⌜ size ≤ length (now digest) ⌝ }
+{
+    for i in 0..size {
+        io::print_hex(STDOUT_FILENO, wide(digest[i]), 2);
+    }
+    io::write_all(STDOUT_FILENO, b"\n");
+}
+
+// Where a piece of k bytes from `at` on ends in a message of n bytes.
+fn piece_end(at: usize, k: usize, n: usize) -> usize
+    requires { ⌜ at < n ⌝ }
+    requires { ⌜ 0 < k ⌝ }
+    ensures { λ r. ⌜ at < r ⌝ }
+    ensures { λ r. ⌜ r ≤ n ⌝ }
+{
+    if n - at < k {
+        return n;
+    }
+    at + k
+}
+
+// Adds the message in pieces of k bytes and reads after each; the session at the end, with what the last read put into `out`.
+fn in_pieces(opened: Session, message: &[u8], k: usize, out: &mut [u8]) -> u8
+    requires { ⌜ 0 < k ⌝ }
+{
+    let mut session = opened;
+    let mut at = 0;
+    while at < message.len() {
+        let end = piece_end(at, k, message.len());
+        let added = session.add(&message[at..end]);
+        let next = added.session;
+        let read = next.read(out);
+        session = read.session;
+        at = end;
+    }
+    let last = session.read(out);
+    last.refusal
+}
+
+// The digest of the first n bytes of `room`.
+fn digest_of(bits: u64, salt: &[u8], room: &[u8], n: usize, k: usize, out: &mut [u8]) -> u8
+    requires { ⌜ n ≤ length (now room) ⌝ }
+{
+    if k == 0 {
+        return echo::digest(bits, salt, &room[0..n], out);
+    }
+    let opening = Session::open(bits, salt);
+    let refused = opening.refusal;
+    if refused != 0 {
+        return refused;
+    }
+    in_pieces(opening.session, &room[0..n], k, out)
+}
+
+fn run(case: &[u8])
+    requires { ⌜ length (now case) ≡ 32 ⌝ }
+{
+    let bits = short(case, 0);
+    let n = short(case, 2);
+    let k = short(case, 5);
+    let salt_end = 16 + wide(case[7]) as usize;
+    if 1024 < n {
+        return;
+    }
+    if 32 < salt_end {
+        return;
+    }
+    let mut room = [0u8; 1024];
+    fill(&mut room, case[4]);
+    let mut out = [0u8; 64];
+    let refusal = digest_of(bits as u64, &case[16..salt_end], &room, n, k, &mut out);
+    if refusal != 0 {
+        print_refused(refusal);
+        return;
+    }
+    let end = bits / 8;
+    if end <= 64 {
+        print_digest(&out, end);
+    }
+}
+
+// A proved loop has to end, and nothing says that the input does: the turns count down from a number that no run uses up.
+fn main() {
+    let mut case = [0u8; 32];
+    let mut turns = u64::MAX;
+    while 0 < turns {
+        let n = io::read_full(STDIN_FILENO, &mut case);
+        if n < 32 {
+            return;
+        }
+        run(&case);
+        turns -= 1;
+    }
+}

@@ -1,0 +1,115 @@
+use super::record::RECORD;
+use super::*;
+use std::collections::HashSet;
+
+/// Published digests of the empty message under the all-zero salt.
+const PUBLISHED: &str = "\
+17da087595166f733fff7cdb0bca6438f303d0e00c48b5e7a3075905
+4496cd09d425999aefa75189ee7fd3c97362aa9e4ca898328002d20a4b519788
+134040763f840559b84b7a1ae5d6d64fc3659821a789cc64a7f1444c09ee7f81a54d72beee8273bae5ef18ec43aa5f34
+158f58cc79d300a9aa292515049275d051a28ab931726d0ec44bdd9faef4a702c36db9e7922fff077402236465833c5cc76af4efc352b4b44c7fa15aa0ef234e
+";
+
+#[test]
+fn the_answers_begin_with_the_published_digests() {
+    let answers = files().remove(1).bytes;
+    assert!(answers.starts_with(PUBLISHED.repeat(2).as_bytes()));
+}
+
+#[test]
+fn records_have_their_layout() {
+    for case in cases() {
+        let record = case.record();
+        assert_eq!(record.len(), RECORD);
+        assert!(case.length <= 1024 && case.salt_length <= 16);
+        assert_eq!(record[8..16], [0; 8]);
+    }
+    let case = Case {
+        bits: 0x0201,
+        length: 0x0403,
+        seed: 5,
+        piece: 0x0706,
+        salt_length: 8,
+        salt: std::array::from_fn(|i| 16 + i as u8),
+    };
+    let numbers = [1, 2, 3, 4, 5, 6, 7, 8];
+    assert_eq!(case.record(), [&numbers[..], &[0; 8], &case.salt].concat());
+}
+
+#[test]
+fn messages_by_their_rule() {
+    let mut case = Case::new(&mut Generator::new(2), 256, 1024, 0);
+    case.seed = 0xfe;
+    let message = case.message();
+    assert_eq!(message.len(), 1024);
+    assert_eq!(message[..4], [0xfe, 0x1b, 0x38, 0x55]);
+    // 254 + 29 * 256 + 101 and 254 + 29 * 1023 + 303, without whole 256s.
+    assert_eq!((message[256], message[1023]), (0x63, 0x10));
+    case.length = 0;
+    assert_eq!(case.message(), b"");
+}
+
+#[test]
+fn only_the_refused_cases_are_refused() {
+    let mut counts = [0; 3];
+    for case in cases() {
+        match case.answer() {
+            Ok(digest) => {
+                assert_eq!(8 * digest.len(), case.bits.into());
+                counts[0] += 1;
+            }
+            Err(number) => {
+                assert_eq!(case.line(), format!("refused {number}\n"));
+                counts[number as usize] += 1;
+            }
+        }
+    }
+    // Done are 8 of empty messages, 36 at edges for each of four digest lengths
+    // and 10 for each of 49. Refused for the digest length are 18 with a salt of
+    // 16 bytes and 36 with another; for the salt alone, 16.
+    assert_eq!(counts, [8 + 4 * 36 + 49 * 10, 18 + 36, 16]);
+}
+
+#[test]
+fn every_kind_of_hand_over_is_met() {
+    let cases = cases();
+    let done: Vec<&Case> = cases.iter().filter(|case| case.answer().is_ok()).collect();
+    let lengths: HashSet<u16> = done.iter().map(|case| case.bits).collect();
+    assert_eq!(lengths.len(), 49);
+    for b in [192, 128] {
+        for j in 1..=4 {
+            for length in [j * b - 19, j * b - 18, j * b, j * b + 1] {
+                let met = |case: &&&Case| block(case.bits) == b && case.length == length;
+                assert!(done.iter().filter(met).count() >= 2);
+            }
+        }
+        let family = done.iter().filter(|case| block(case.bits) == b);
+        let pieces: HashSet<u16> = family.map(|case| case.piece).collect();
+        for piece in [0, 1, 7, 13, 64, b - 1, b, b + 1, 1000] {
+            assert!(pieces.contains(&piece));
+        }
+    }
+    let zero = done.iter().filter(|case| case.salt == [0; 16]).count();
+    assert!(zero > 100 && zero < 250);
+}
+
+#[test]
+fn no_length_meets_a_size_of_pieces_twice_at_the_edges() {
+    let cases = block_edges(&mut Generator::new(2));
+    let met: HashSet<(u16, u16, u16)> = cases
+        .iter()
+        .map(|case| (case.bits, case.length, case.piece))
+        .collect();
+    assert_eq!(met.len(), cases.len());
+}
+
+#[test]
+fn the_files_hold_every_case() {
+    let count = cases().len();
+    let files = files();
+    assert_eq!(files[0].bytes.len(), count * RECORD);
+    assert_eq!(
+        files[1].bytes.iter().filter(|b| **b == b'\n').count(),
+        count
+    );
+}

@@ -1,3 +1,4 @@
 -- What is proved of the definitions in specs/, apart from any function.
 pub mod Laws
 pub mod NothingIsLost
+pub mod TheDigest

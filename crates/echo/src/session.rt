@@ -8,7 +8,7 @@ ghost use lib.Dec.{eqb};
 ghost use Rattle.echo.specs.Digest.{initial as Digest·initial};
 ghost use Rattle.echo.specs.Families.{blockSize, chainingSize, either};
 ghost use Rattle.echo.specs.Numbers.{littleEndian};
-ghost use Rattle.echo.specs.Session.{addAnswer, addByte, addBytes, allZero, blank, compressed, digestLeaves, digestRefusal, finalChaining, isSession, limit, made, openAnswer, readAnswer, readLeaves};
+ghost use Rattle.echo.specs.Session.{addAnswer, addByte, addBytes, allZero, blank, compressed, finalChaining, isSession, limit, made, openAnswer, readAnswer, readLeaves};
 ghost use Rattle.echo.specs.Session.{admitted as Session·admitted};
 use super::compression::compress_in;
 use super::compression::round_count;

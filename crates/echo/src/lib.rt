@@ -1,6 +1,9 @@
-// ECHO 2.0: the rounds of its square, forward and backward, and compression.
+// ECHO 2.0: the rounds of its square, forward and backward, compression, sessions and digests.
 mod compression;
 mod digest_at_once;
+mod families;
+mod initial;
+mod last_blocks;
 mod lent;
 mod mix_columns;
 mod refusals;
@@ -8,6 +11,7 @@ mod run;
 mod session;
 mod shift_rows;
 mod sub_words;
+mod waiting;
 
 pub use compression::compress;
 pub use digest_at_once::digest;

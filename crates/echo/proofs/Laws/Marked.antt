@@ -35,11 +35,10 @@ counter-rows = (in-order 174 1392 0 refl refl refl, (in-order 192 1536 0 refl re
 
 padded-messages : Hold paddings
 unfolding paddings pad padding
-padded-messages =
-    (
-      ap (λ (e : List ℕ). 0x80 ∷ (replicate 173 0 ++ e)) (sym (lengths-are 256 0 (lit< tt))),
-      (ap (λ (e : List ℕ). 0x61 ∷ 0x62 ∷ 0x63 ∷ 0x80 ∷ (replicate 170 0 ++ e)) (sym (lengths-are 256 24 (lit< tt))), tt),
-    )
+padded-messages = (
+  ap (λ (e : List ℕ). 0x80 ∷ (replicate 173 0 ++ e)) (sym (lengths-are 256 0 (lit< tt))),
+  (ap (λ (e : List ℕ). 0x61 ∷ 0x62 ∷ 0x63 ∷ 0x80 ∷ (replicate 170 0 ++ e)) (sym (lengths-are 256 24 (lit< tt))), tt),
+)
 
 pub marked : Hold examples
 unfolding examples

@@ -1,0 +1,95 @@
+// The blocks of padding at the end of a message.
+ghost use mathlib.Core.Bool.{true};
+ghost use mathlib.Core.List.{_++_};
+ghost use mathlib.Core.Path.{_≡_};
+ghost use Prim.Native.Nat.{_*_, _-_, _%_, _≤_, _^_};
+ghost use lib.ListN.{drop, length, take};
+ghost use lib.Dec.{eqb};
+ghost use Rattle.echo.specs.Families.{blockSize, chainingSize, either};
+ghost use Rattle.echo.specs.Numbers.{littleEndian};
+ghost use Rattle.echo.specs.Session.{allZero, compressed, finalChaining, limit, made};
+use super::families::block_size;
+use super::lent::copy_in;
+use super::waiting::clear;
+use super::waiting::compress_waiting;
+
+// The last eighteen bytes of the padding: the digest length in two bytes and the message's bit count in sixteen.
+fn lengths(bits: u64, taken: u64) -> [u8; 18]
+    requires { ⌜ bits ≤ 512 ⌝ }
+    requires { ⌜ taken ≤ limit ⌝ }
+    ensures { λ r. ⌜ r ≡ littleEndian 2 bits ++ littleEndian 16 (8 * taken) ⌝ }
+{
+    let count = 8 * taken;
+    [
+        (bits % 0x100) as u8,
+        (bits / 0x100 % 0x100) as u8,
+        (count % 0x100) as u8,
+        (count / 0x100 % 0x100) as u8,
+        (count / 0x1_0000 % 0x100) as u8,
+        (count / 0x100_0000 % 0x100) as u8,
+        (count / 0x1_0000_0000 % 0x100) as u8,
+        (count / 0x100_0000_0000 % 0x100) as u8,
+        (count / 0x1_0000_0000_0000 % 0x100) as u8,
+        (count / 0x100_0000_0000_0000 % 0x100) as u8,
+        0,
+        0,
+        0,
+        0,
+        0,
+        0,
+        0,
+        0,
+    ]
+}
+
+// The counter of the block with the padding's first byte, of which `at` bytes are message: 0 for a block of pure padding.
+fn last_counter(at: usize, taken: u64) -> u64
+    requires { ⌜ taken ≤ limit ⌝ }
+    ensures { λ r. ⌜ r ≡ either (eqb at 0) 0 (8 * taken) ⌝ }
+{
+    if at == 0 { 0 } else { 8 * taken }
+}
+
+// Closes the waiting block with the lengths and compresses it.
+fn close(
+    chaining: &mut [u8],
+    waiting: &mut [u8],
+    bits: u64,
+    taken: u64,
+    counter: u64,
+    salt: [u8; 16],
+)
+    requires { ⌜ length (now chaining) ≡ 128 ⌝ }
+    requires { ⌜ length (now waiting) ≡ 192 ⌝ }
+    requires { ⌜ counter ≤ 2 ^ 64 - 161 ⌝ }
+    requires { ⌜ bits ≤ 512 ⌝ }
+    requires { ⌜ taken ≤ limit ⌝ }
+    ensures { λ _. ⌜ now (chaining .exit) ≡ compressed bits salt (now (chaining .entry)) counter (take (blockSize bits - 18) (now (waiting .entry)) ++ (littleEndian 2 bits ++ littleEndian 16 (8 * taken))) ⌝ }
+{
+    let at = block_size(bits) - 18;
+    let end = lengths(bits, taken);
+    copy_in(waiting, at, &end);
+    compress_waiting(chaining, waiting, bits, counter, salt);
+}
+
+// The blocks that are left: those of the waiting bytes and the padding.
+pub(crate) fn finish(chaining: &mut [u8], waiting: &mut [u8], bits: u64, taken: u64, salt: [u8; 16])
+    requires { ⌜ length (now chaining) ≡ 128 ⌝ }
+    requires { ⌜ length (now waiting) ≡ 192 ⌝ }
+    requires { ⌜ allZero (drop (taken % blockSize bits) (now waiting)) ≡ true ⌝ }
+    requires { ⌜ bits ≤ 512 ⌝ }
+    requires { ⌜ taken ≤ limit ⌝ }
+    ensures { λ _. ⌜ take (chainingSize bits) (now (chaining .exit)) ≡ finalChaining (made bits salt (now (chaining .entry)) taken (now (waiting .entry))) ⌝ }
+{
+    let b = block_size(bits);
+    let at = (taken % (b as u64)) as usize;
+    let counter = last_counter(at, taken);
+    waiting[at] = 0x80;
+    if at + 19 <= b {
+        close(chaining, waiting, bits, taken, counter, salt);
+        return;
+    }
+    compress_waiting(chaining, waiting, bits, counter, salt);
+    clear(waiting);
+    close(chaining, waiting, bits, taken, 0, salt);
+}

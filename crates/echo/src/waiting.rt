@@ -1,0 +1,113 @@
+// The waiting block of a session, over its lent parts.
+ghost use mathlib.Core.Path.{_≡_};
+ghost use Prim.Native.Nat.{_+_, _-_, _%_, _<_, _≤_, _^_};
+ghost use lib.ListN.{drop, length, replicate, take};
+ghost use Rattle.echo.specs.Families.{blockSize};
+ghost use Rattle.echo.specs.Session.{addByte, addBytes, allZero, compressed, limit, made};
+use super::compression::compress_in;
+use super::compression::round_count;
+use super::families::block_size;
+use super::families::chaining_size;
+
+// Whether every byte from the place `at` on is zero.
+pub(crate) fn zeros_from(bytes: &[u8], at: usize) -> bool
+    requires { ⌜ at ≤ length (now bytes) ⌝ }
+    ensures { λ r. ⌜ r ≡ allZero (drop at (now (bytes .entry))) ⌝ }
+{
+    let mut i = at;
+    while i < bytes.len() {
+        if bytes[i] != 0 {
+            return false;
+        }
+        i += 1;
+    }
+    true
+}
+
+pub(crate) fn clear(bytes: &mut [u8])
+    ensures { λ _. ⌜ now (bytes .exit) ≡ replicate (length (now (bytes .entry))) 0 ⌝ }
+{
+    let n = bytes.len();
+    for i in 0..n {
+        bytes[i] = 0;
+    }
+}
+
+// Compresses the waiting block, by the family's sizes.
+pub(crate) fn compress_waiting(
+    chaining: &mut [u8],
+    waiting: &[u8],
+    bits: u64,
+    counter: u64,
+    salt: [u8; 16],
+)
+    requires { ⌜ length (now chaining) ≡ 128 ⌝ }
+    requires { ⌜ length (now waiting) ≡ 192 ⌝ }
+    requires { ⌜ counter ≤ 2 ^ 64 - 161 ⌝ }
+    ensures { λ _. ⌜ now (chaining .exit) ≡ compressed bits salt (now (chaining .entry)) counter (take (blockSize bits) (now (waiting .entry))) ⌝ }
+{
+    let c = chaining_size(bits);
+    let b = block_size(bits);
+    compress_in(
+        &mut chaining[..c],
+        &waiting[..b],
+        round_count(c),
+        counter,
+        salt,
+    );
+}
+
+// One byte more, over the lent parts of a session, `at` the waiting bytes in use. Answers how many are in use then.
+fn put(
+    chaining: &mut [u8],
+    waiting: &mut [u8],
+    at: usize,
+    x: u8,
+    bits: u64,
+    taken: u64,
+    salt: [u8; 16],
+) -> usize
+    requires { ⌜ length (now chaining) ≡ 128 ⌝ }
+    requires { ⌜ length (now waiting) ≡ 192 ⌝ }
+    requires { ⌜ at ≡ taken % blockSize bits ⌝ }
+    requires { ⌜ taken < limit ⌝ }
+    ensures { λ r. ⌜ r ≡ (taken + 1) % blockSize bits ⌝ }
+    ensures { λ _. ⌜ made bits salt (now (chaining .exit)) (taken + 1) (now (waiting .exit)) ≡ addByte (made bits salt (now (chaining .entry)) taken (now (waiting .entry))) x ⌝ }
+{
+    let b = block_size(bits);
+    waiting[at] = x;
+    if at + 1 < b {
+        return at + 1;
+    }
+    compress_waiting(chaining, waiting, bits, 8 * (taken + 1), salt);
+    clear(waiting);
+    0
+}
+
+// A piece, byte by byte.
+pub(crate) fn absorb(
+    chaining: &mut [u8],
+    waiting: &mut [u8],
+    piece: &[u8],
+    bits: u64,
+    taken: u64,
+    salt: [u8; 16],
+)
+    requires { ⌜ length (now chaining) ≡ 128 ⌝ }
+    requires { ⌜ length (now waiting) ≡ 192 ⌝ }
+    requires { ⌜ taken + length (now piece) ≤ limit ⌝ }
+    ensures { λ _. ⌜ made bits salt (now (chaining .exit)) (taken + length (now (piece .entry))) (now (waiting .exit)) ≡ addBytes (made bits salt (now (chaining .entry)) taken (now (waiting .entry))) (now (piece .entry)) ⌝ }
+{
+    let mut at = (taken % (block_size(bits) as u64)) as usize;
+    for i in 0..piece.len() {
+        at = put(
+            chaining,
+            waiting,
+            at,
+            piece[i],
+            bits,
+            taken + i as u64,
+            salt,
+        );
+    }
+}

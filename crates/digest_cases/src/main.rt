@@ -61,7 +61,7 @@ fn piece_end(at: usize, k: usize, n: usize) -> usize
     at + k
 }
 
-// Adds the message in pieces of k bytes and reads after each; the session at the end, with what the last read put into `out`.
+// Adds the message in pieces of k bytes and reads after each, and at the end; answers the last reading's refusal.
 fn in_pieces(opened: Session, message: &[u8], k: usize, out: &mut [u8]) -> u8
     requires { ⌜ 0 < k ⌝ }
 {

@@ -14,8 +14,8 @@ use record::Case;
 /// The digest lengths that the paper names.
 const NAMED: [u16; 4] = [224, 256, 384, 512];
 
-/// Message lengths in the scope's table of counters.
-const COUNTER_TABLE: [u16; 8] = [0, 109, 110, 128, 173, 174, 192, 193];
+/// How often each message is digested.
+const CUTS: usize = 3;
 
 /// The program's input and the output it has to give.
 pub fn files() -> Vec<File> {
@@ -36,7 +36,6 @@ fn cases() -> Vec<Case> {
     let mut generator = Generator::new(2);
     let mut cases = empty_messages(&mut generator);
     cases.extend(block_edges(&mut generator));
-    cases.extend(all_digest_lengths(&mut generator));
     cases.extend(refused::cases(&mut generator));
     cases
 }
@@ -57,50 +56,38 @@ fn empty_messages(generator: &mut Generator) -> Vec<Case> {
     cases
 }
 
-/// Messages that end on both sides of where the padding needs one block more,
-/// and of a block's end, up to four blocks. The sizes of pieces come in turn; a
-/// length that comes again meets another size.
+/// Messages for every admitted digest length: they end on both sides of where
+/// the padding needs one block more, and of a block's end, up to four blocks.
+/// Each is digested in several cuts.
 fn block_edges(generator: &mut Generator) -> Vec<Case> {
     let mut cases = Vec::new();
-    for bits in NAMED {
+    for bits in (128..=512).step_by(8) {
         let b = block(bits);
         let edges = (1..=4).flat_map(|j| {
             let end = j * b;
-            [
-                end - 20,
-                end - 19,
-                end - 18,
-                end - 17,
-                end - 1,
-                end,
-                end + 1,
-            ]
+            [end - 19, end - 18, end - 1, end, end + 1]
         });
-        for length in edges.chain(COUNTER_TABLE) {
-            let pieces = [0, 1, 7, b - 1, b, b + 1, length.max(1), 64];
-            let piece = pieces[cases.len() % pieces.len()];
-            cases.push(some_salt(generator, bits, length, piece));
+        let other = generator.below(1024) as u16;
+        for length in edges.chain([0, 1, other]) {
+            let message = some_salt(generator, bits, length, 0);
+            for piece in cuts(b, length, cases.len() / CUTS) {
+                cases.push(Case {
+                    piece,
+                    ..message.clone()
+                });
+            }
         }
     }
     cases
 }
 
-/// Every admitted digest length with ten messages. The sizes of pieces come in
-/// turn, from one further on at each digest length: else, as five divides ten,
-/// each message length would meet one size only.
-fn all_digest_lengths(generator: &mut Generator) -> Vec<Case> {
-    let mut cases = Vec::new();
-    for (turn, bits) in (128..=512).step_by(8).enumerate() {
-        let b = block(bits);
-        let chosen = [0, 1, b - 19, b - 18, b, b + 1, 2 * b - 18, 600];
-        let others = [(); 2].map(|_| generator.below(1024) as u16);
-        for (index, length) in chosen.into_iter().chain(others).enumerate() {
-            let pieces = [0, 1, 13, b, 1000];
-            let piece = pieces[(turn + index) % pieces.len()];
-            cases.push(some_salt(generator, bits, length, piece));
-        }
-    }
-    cases
+/// At once, and in pieces of two sizes, which come in turn. Each piece is
+/// followed by a reading, so that single bytes are for short messages.
+fn cuts(b: u16, length: u16, turn: usize) -> [u16; CUTS] {
+    let few = if length <= b + 1 { 1 } else { 5 };
+    let sizes = [few, 7, b - 1, b, b + 1, length.max(1), 64, 13, 1000];
+    let size = |index: usize| sizes[index % sizes.len()];
+    [0, size(turn), size(turn + 4)]
 }
 
 /// A case whose salt is all zero one time in four.

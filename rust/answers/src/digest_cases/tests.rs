@@ -64,10 +64,10 @@ fn only_the_refused_cases_are_refused() {
             }
         }
     }
-    // Done are 8 of empty messages, 36 at edges for each of four digest lengths
-    // and 10 for each of 49. Refused for the digest length are 18 with a salt of
-    // 16 bytes and 36 with another; for the salt alone, 16.
-    assert_eq!(counts, [8 + 4 * 36 + 49 * 10, 18 + 36, 16]);
+    // Done are 8 of empty messages, and 23 messages in three cuts for each of 49
+    // digest lengths. Refused for the digest length are 18 with a salt of 16
+    // bytes and 36 with another; for the salt alone, 16.
+    assert_eq!(counts, [8 + 49 * 23 * 3, 18 + 36, 16]);
 }
 
 #[test]
@@ -76,31 +76,50 @@ fn every_kind_of_hand_over_is_met() {
     let done: Vec<&Case> = cases.iter().filter(|case| case.answer().is_ok()).collect();
     let lengths: HashSet<u16> = done.iter().map(|case| case.bits).collect();
     assert_eq!(lengths.len(), 49);
-    for b in [192, 128] {
+    for bits in lengths {
+        let b = block(bits);
         for j in 1..=4 {
             for length in [j * b - 19, j * b - 18, j * b, j * b + 1] {
-                let met = |case: &&&Case| block(case.bits) == b && case.length == length;
-                assert!(done.iter().filter(met).count() >= 2);
+                let met = |case: &&&Case| case.bits == bits && case.length == length;
+                assert!(done.iter().filter(met).count() >= CUTS);
             }
         }
+    }
+    for b in [192, 128] {
         let family = done.iter().filter(|case| block(case.bits) == b);
         let pieces: HashSet<u16> = family.map(|case| case.piece).collect();
-        for piece in [0, 1, 7, 13, 64, b - 1, b, b + 1, 1000] {
+        for piece in [0, 1, 5, 7, 13, 64, b - 1, b, b + 1, 1000] {
             assert!(pieces.contains(&piece));
         }
     }
     let zero = done.iter().filter(|case| case.salt == [0; 16]).count();
-    assert!(zero > 100 && zero < 250);
+    assert!(zero > done.len() / 6 && zero < done.len() / 3);
 }
 
 #[test]
-fn no_length_meets_a_size_of_pieces_twice_at_the_edges() {
+fn every_row_of_the_counter_table_is_met() {
     let cases = block_edges(&mut Generator::new(2));
-    let met: HashSet<(u16, u16, u16)> = cases
-        .iter()
-        .map(|case| (case.bits, case.length, case.piece))
-        .collect();
-    assert_eq!(met.len(), cases.len());
+    for (b, lengths) in [
+        (192, vec![0, 173, 174, 192, 193]),
+        (128, vec![0, 109, 110, 128]),
+    ] {
+        for length in lengths {
+            let met = |case: &Case| block(case.bits) == b && case.length == length;
+            assert!(cases.iter().any(met));
+        }
+    }
+}
+
+#[test]
+fn each_message_is_cut_in_several_ways() {
+    for cuts in block_edges(&mut Generator::new(2)).chunks(CUTS) {
+        assert_eq!(cuts[0].piece, 0);
+        for case in cuts {
+            assert_eq!(case.message(), cuts[0].message());
+            assert_eq!((case.bits, case.salt), (cuts[0].bits, cuts[0].salt));
+        }
+        assert!(cuts[1].piece != cuts[2].piece || cuts[0].length <= 1);
+    }
 }
 
 #[test]

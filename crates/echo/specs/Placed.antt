@@ -1,4 +1,4 @@
--- Bytes put into a lent slice. Assumes nothing.
+-- Bytes put into a lent slice: a step of the code, which only contracts of private functions cite. Assumes nothing.
 use mathlib.Core.Path.{_≡_}
 use mathlib.Core.List.{List}
 use Prim.Native.Nat.{ℕ, _+_, _<_, _≤_}

@@ -34,7 +34,7 @@ isSession s =
     && (leb (s .taken) limit
     && (allZero (drop (s .taken % blockSize (s .bits)) (s .waiting)) && allZero (drop (chainingSize (s .bits)) (s .chaining))))
 
--- a session of its parts
+-- a session of its parts, for contracts of private functions
 abbrev pub made : ℕ → List ℕ → List ℕ → ℕ → List ℕ → Session
 made bits salt chaining taken waiting = record { bits = bits; salt = salt; chaining = chaining; taken = taken; waiting = waiting }
 

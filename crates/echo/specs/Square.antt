@@ -29,10 +29,6 @@ bigShiftRows s = shiftRows 16 s
 unfoldable pub bigMixColumns : List ℕ → List ℕ
 bigMixColumns s = mixColumns 16 forward s
 
--- 3.3: one column of the square, four words in a row, times the matrix m at each byte position
-unfoldable pub mixWords : List ℕ → List ℕ → List ℕ
-mixWords m c = tab 64 (λ k. getD (mixColumn m (getD c (k % 16) 0 ∷ getD c (16 + k % 16) 0 ∷ getD c (32 + k % 16) 0 ∷ getD c (48 + k % 16) 0 ∷ [])) (k / 16) 0)
-
 -- 3: BIG.Round
 unfoldable pub bigRound : (ℕ → List ℕ) → List ℕ → List ℕ → List ℕ
 bigRound key salt s = bigMixColumns (bigShiftRows (bigSubWords key salt s))
@@ -63,3 +59,9 @@ bigRoundBack key salt s = bigSubWordsBack key salt (bigShiftRowsBack (bigMixColu
 unfoldable pub roundsBack : ℕ → (ℕ → List ℕ) → List ℕ → List ℕ → List ℕ
 roundsBack zero key salt s = s
 roundsBack (suc n) key salt s = roundsBack n key salt (bigRoundBack (λ i. key (16 * n + i)) salt s)
+
+-- ---- a step of the code, which only contracts of private functions cite
+
+-- 3.3: one column of the square, four words in a row, times the matrix m at each byte position
+unfoldable pub mixWords : List ℕ → List ℕ → List ℕ
+mixWords m c = tab 64 (λ k. getD (mixColumn m (getD c (k % 16) 0 ∷ getD c (16 + k % 16) 0 ∷ getD c (32 + k % 16) 0 ∷ getD c (48 + k % 16) 0 ∷ [])) (k / 16) 0)

@@ -14,3 +14,4 @@ pub mod Ends
 pub mod Stream
 pub mod Opened
 pub mod AtOnce
+pub mod Pieces

@@ -10,6 +10,8 @@ mod digest_cases;
 mod echo_cases;
 mod file;
 mod generator;
+mod table_cases;
+mod table_programs;
 
 use file::File;
 use std::path::Path;
@@ -17,10 +19,15 @@ use std::process::ExitCode;
 
 /// The files of all programs. Each program's cases have a module of their own.
 fn files() -> Vec<File> {
-    [echo_cases::files(), digest_cases::files()]
-        .into_iter()
-        .flatten()
-        .collect()
+    [
+        echo_cases::files(),
+        digest_cases::files(),
+        table_programs::files(),
+        table_cases::files(),
+    ]
+    .into_iter()
+    .flatten()
+    .collect()
 }
 
 fn main() -> ExitCode {

@@ -96,7 +96,8 @@ pub fn fingerprint_output(input: &[u8]) -> String {
     }
 }
 
-fn refused_line((number, place): Refused) -> String {
+/// What the programs print for a refusal.
+pub fn refused_line((number, place): Refused) -> String {
     format!("refused {number} at {place}\n")
 }
 

@@ -1,0 +1,6 @@
+pub mod Numbers
+pub mod Records
+pub mod Reading
+pub mod Parsing
+pub mod Tables
+pub mod Fingerprint

@@ -1,0 +1,67 @@
+-- An accepted table is exactly the bytes of its records in order. Assumes nothing.
+use mathlib.Core.Path.{_≡_, refl, sym, ap, ap₂, _∙_, subst}
+use mathlib.Core.List.{List, [], _∷_, _++_}
+use Prim.Native.Nat.{ℕ, zero, suc, _+_, _-_, _<_, _≤_}
+use native.Mathlib.Numerals.{add-one}
+use native.Mathlib.Omega.{arith}
+use lib.ListN.{drop, getD, length, length-drop, take, take-append-drop}
+use lib.Seq.{drop-cons, drop-drop, drop-length, length-take-le}
+use Rattle.steering.specs.Numbers.{AreBytes}
+use Rattle.steering.specs.Parsing.{Parsed, accepted, goOn, inFront, parse, parseFrom, refused, tableOf}
+use Rattle.steering.specs.Reading.{readAt}
+use Rattle.steering.specs.Records.{bodyLength, bodyOf, kindOf, recordOf}
+use Rattle.steering.specs.declared.reading.Reading.{Reading}
+use Rattle.steering.specs.declared.reading.Reading.the-variants.{End, Found, Refused}
+use Rattle.steering.specs.declared.records.Record.{Record}
+use Rattle.steering.proofs.Laws.Numbers.{bytes-drop, bytes-take}
+use Rattle.steering.proofs.Laws.Reading.{Here, ended, found}
+use Rattle.steering.proofs.Laws.Records.{Has, read-back}
+
+module _ (t : List ℕ) (b : AreBytes t) where
+  -- the record that was found has the kind byte and the body that stand there
+  pub there : (place next : ℕ) (r : Record) → Found r next ≡ readAt t place → Has r (getD t place 0) (take (next - (place + 1)) (drop (place + 1) t))
+  there place next r e =
+      let H = found t place r next e in
+      let kind = getD t place 0 in
+      let n : next - (place + 1) ≡ bodyLength kind = omega (arith, H .next-is) in
+      let body = take (bodyLength kind) (drop (place + 1) t) in
+      let long : length body ≡ bodyLength kind = length-take-le (bodyLength kind) (drop (place + 1) t) (omega (arith, length-drop (place + 1) t, H .in-table)) in
+      let R = read-back kind body long (bytes-take (bodyLength kind) (drop (place + 1) t) (bytes-drop (place + 1) t b)) (H .known) in
+      rw (n, H .record-is) R
+
+  -- the bytes from its place on are its own, and then those from the next place on
+  pub begins : (place next : ℕ) (r : Record) → Found r next ≡ readAt t place → drop place t ≡ kindOf r ∷ bodyOf r ++ drop next t
+  begins place next r e =
+      let H = found t place r next e in
+      let T = there place next r e in
+      let d = drop (place + 1) t in
+      let n : place + 1 + (next - (place + 1)) ≡ next = omega (arith, H .next-is) in
+      let h : place < length t = omega (arith, H .in-table) in
+      drop-cons t place 0 h
+      ∙ ap₂ (λ (k : ℕ) (l : List ℕ). k ∷ l) (sym (T .kind-is))
+      (ap (λ (j : ℕ). drop j t) (sym (add-one place))
+      ∙ sym (take-append-drop (next - (place + 1)) d)
+      ∙ ap₂ (λ (x y : List ℕ). x ++ y) (sym (T .body-is)) (drop-drop (next - (place + 1)) (place + 1) t ∙ ap (λ (j : ℕ). drop j t) n))
+
+  -- one record more, where the rest from each next place on is right
+  sound-step : (n place : ℕ) (rs : List Record) → ((next : ℕ) (more : List Record) → parseFrom n t next ≡ accepted more → drop next t ≡ tableOf more)
+      → (x : Reading) → x ≡ readAt t place → goOn x (parseFrom n t) ≡ accepted rs → drop place t ≡ tableOf rs
+  sound-step n place rs again (Found r next) p q = rest (parseFrom n t next) refl q
+    where
+      rest : (y : Parsed) → parseFrom n t next ≡ y → inFront r y ≡ accepted rs → drop place t ≡ tableOf rs
+      rest (accepted more) f g =
+          let same : r ∷ more ≡ rs = cc in
+          begins place next r p ∙ ap (λ (l : List ℕ). kindOf r ∷ bodyOf r ++ l) (again next more f) ∙ ap tableOf same
+      rest (refused number at) f g = let z : _≡_ {A = ℕ} 0 1 = cc in absurd (omega arith)
+  sound-step n place rs again End p q =
+      let same : [] ≡ rs = cc in
+      ap (λ (j : ℕ). drop j t) (ended t place p) ∙ drop-length t ∙ ap tableOf same
+  sound-step n place rs again (Refused number at) p q = let z : _≡_ {A = ℕ} 0 1 = cc in absurd (omega arith)
+
+  sound-from : (n place : ℕ) (rs : List Record) → parseFrom n t place ≡ accepted rs → drop place t ≡ tableOf rs
+  unfolding parseFrom
+  sound-from zero place rs e = let z : _≡_ {A = ℕ} 0 1 = cc in absurd (omega arith)
+  sound-from (suc n) place rs e = sound-step n place rs (λ next more f. sound-from n next more f) (readAt t place) refl e
+
+  pub accepted-is : (rs : List Record) → parse t ≡ accepted rs → t ≡ tableOf rs
+  accepted-is rs e = sound-from (suc (length t)) 0 rs e

@@ -1,0 +1,46 @@
+-- `four` meets its contract: the number is read in two parts. Assumes nothing.
+use mathlib.Core.Path.{_∙_, ap₂}
+use Prim.Native.Nat.{_*_, _+_, _^_, ℕ}
+use borrow.Author.Needs.{needs}
+use Rattle.steering.proofs.Laws.Numbers.{joined}
+use Rattle.steering.proofs.numbers.four.Statement.{statement}
+use Rattle.steering.proofs.numbers.four.Tie as tie
+
+two-requires : tie.Need-two-requires
+two-requires c κs = search needs
+
+add-two : tie.Need-add-two
+add-two c = search needs
+
+two-requires-2 : tie.Need-two-requires-2
+two-requires-2 c κs = search needs
+
+cast-result : tie.Need-cast-result
+cast-result c = search needs
+
+mul-result : tie.Need-mul-result
+mul-result c = search needs
+
+cast-result-2 : tie.Need-cast-result-2
+cast-result-2 c = search needs
+
+add-result : tie.Need-add-result
+add-result c = search needs
+
+returns : tie.Need-returns
+returns c =
+    let A = c .before .before .before .args in
+    ap₂ (λ (h l : ℕ). h * 256 ^ 2 + l) (c .before .two .ensures) (c .two2 .ensures) ∙ joined (A .at) (A .bytes .now) 2 2 (c .before .before .before .pre)
+
+pub four-spec : {M : Type 1} → statement M
+four-spec =
+    tie.close
+    (tie.spec
+    two-requires
+    add-two
+    two-requires-2
+    cast-result
+    mul-result
+    cast-result-2
+    add-result
+    returns)

@@ -1,0 +1,84 @@
+-- `print_room` is safe. The line end is stored before the loop, so the invariant keeps its length. Assumes nothing.
+use mathlib.Core.Path.{_≡_}
+use Prim.Native.Nat.{_-_, _≤_}
+use lib.ListN.{length}
+use borrow.Author.Needs.{needs}
+use Rattle.table_cases.proofs.print_room.Statement.{statement}
+use Rattle.table_cases.proofs.print_room.Tie as tie
+
+abbrev Inv-loop : tie.InvT-loop
+Inv-loop refusal place room i₀ t7 i-end i = (i ≤ i-end) × (i-end ≡ length room) × (length t7 ≡ 1)
+
+abbrev μ-loop : tie.MeasureT-loop
+μ-loop refusal place room i₀ t7 i-end i = i-end - i
+
+print-decimal-requires : tie.Need-print-decimal-requires Inv-loop μ-loop
+print-decimal-requires c κs = search needs
+
+slice-aggregate-write-all : tie.Need-slice-aggregate-write-all Inv-loop μ-loop
+slice-aggregate-write-all c = search needs
+
+write-all-requires : tie.Need-write-all-requires Inv-loop μ-loop
+write-all-requires c κs = search needs
+
+print-decimal-requires-2 : tie.Need-print-decimal-requires-2 Inv-loop μ-loop
+print-decimal-requires-2 c κs = search needs
+
+slice-aggregate-write-all-2 : tie.Need-slice-aggregate-write-all-2 Inv-loop μ-loop
+slice-aggregate-write-all-2 c = search needs
+
+write-all-requires-2 : tie.Need-write-all-requires-2 Inv-loop μ-loop
+write-all-requires-2 c κs = search needs
+
+loop-holds : tie.Need-loop-holds Inv-loop μ-loop
+loop-holds c = search needs
+
+shared-slice-read-wide : tie.Need-shared-slice-read-wide Inv-loop μ-loop
+shared-slice-read-wide c = search needs
+
+wide-requires : tie.Need-wide-requires Inv-loop μ-loop
+wide-requires c κs = search needs
+
+print-hex-requires : tie.Need-print-hex-requires Inv-loop μ-loop
+print-hex-requires c κs = search needs
+
+add-i : tie.Need-add-i Inv-loop μ-loop
+add-i c = search needs
+
+loop-less : tie.Need-loop-less Inv-loop μ-loop
+loop-less c = search needs
+
+loop-again : tie.Need-loop-again Inv-loop μ-loop
+loop-again c = search needs
+
+slice-aggregate-write-all-3 : tie.Need-slice-aggregate-write-all-3 Inv-loop μ-loop
+slice-aggregate-write-all-3 c = search needs
+
+write-all-requires-3 : tie.Need-write-all-requires-3 Inv-loop μ-loop
+write-all-requires-3 c κs = search needs
+
+returns : tie.Need-returns Inv-loop μ-loop
+returns c = search needs
+
+pub print-room-spec : {M : Type 1} → statement M
+print-room-spec =
+    tie.close
+    (tie.spec
+    Inv-loop
+    μ-loop
+    print-decimal-requires
+    slice-aggregate-write-all
+    write-all-requires
+    print-decimal-requires-2
+    slice-aggregate-write-all-2
+    write-all-requires-2
+    loop-holds
+    shared-slice-read-wide
+    wide-requires
+    print-hex-requires
+    add-i
+    loop-less
+    loop-again
+    slice-aggregate-write-all-3
+    write-all-requires-3
+    returns)

@@ -4,3 +4,4 @@ pub mod Reading
 pub mod Parsing
 pub mod Tables
 pub mod Fingerprint
+pub mod Example

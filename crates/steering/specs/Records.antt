@@ -1,11 +1,8 @@
 -- The records of a steering table: the kind of each and its body, byte by byte. Assumes nothing.
-use mathlib.Core.List.{List, [], _∷_, _++_}
+use mathlib.Core.List.{List, _++_}
 use Prim.Native.Nat.{ℕ}
 use lib.Dec.{eqb}
-use Rattle.steering.specs.Numbers.{bigEndian, bytesOf, either, numberAt}
-use Rattle.steering.specs.declared.records.HoldTime.{HoldTime}
-use Rattle.steering.specs.declared.records.JoinFloor.{JoinFloor}
-use Rattle.steering.specs.declared.records.NodeAddress.{NodeAddress}
+use Rattle.steering.specs.Numbers.{bytesOf, either, numberAt}
 use Rattle.steering.specs.declared.records.Radio.{Radio}
 use Rattle.steering.specs.declared.records.Radio.the-variants.{High, Low}
 use Rattle.steering.specs.declared.records.Record.{Record}

@@ -16,7 +16,7 @@ pub fn count(table: &[u8]) -> Counted
     ensures { λ r. ⌜ r ≡ countOf (parse (now (table .entry))) ⌝ }
 {
     let mut at = 0;
-    let mut records = 0;
+    let mut records: usize = 0;
     loop {
         match read_at(table, at) {
             Reading::Found { record: _, next } => {

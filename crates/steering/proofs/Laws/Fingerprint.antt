@@ -1,5 +1,5 @@
 -- The bodies of an accepted table, taken by a session one after the other, and the answers of the fingerprint. Assumes nothing.
-use mathlib.Core.Path.{_≡_, refl, sym, ap, ap₂, _∙_}
+use mathlib.Core.Path.{_≡_, refl, sym, ap, _∙_}
 use mathlib.Core.Bool.{Bool, true, false}
 use mathlib.Core.List.{List, [], _∷_, _++_, append-assoc, append-nil}
 use Prim.Native.Nat.{ℕ, zero, suc, _+_, _-_, _<_, _≤_}
@@ -11,7 +11,7 @@ use lib.Seq.{length-take-le}
 use Rattle.echo.specs.declared.session.Answer.{Answer}
 use Rattle.echo.specs.declared.session.Session.{Session}
 use Rattle.echo.specs.Digest.{digestOf}
-use Rattle.echo.specs.Session.{addAnswer, addBytes, openAnswer, opened, readAnswer, readLeaves}
+use Rattle.echo.specs.Session.{addAnswer, openAnswer, readAnswer, readLeaves}
 use Rattle.echo.proofs.Laws.Opened.{opened-state, stateOf}
 use Rattle.echo.proofs.Laws.Pieces.{admitted-256, opens, reads, takes}
 use Rattle.steering.specs.Fingerprint.{bodiesOf, fingerprintAnswer, fingerprintLeaves, joinedAnswer, placeOf, refusalOf}

@@ -1,5 +1,5 @@
 -- Each case of reading at a place, from the tests that lead to it. Assumes nothing.
-use mathlib.Core.Path.{_≡_, refl, sym, ap, _∙_}
+use mathlib.Core.Path.{_≡_, refl, sym, _∙_}
 use mathlib.Core.Bool.{Bool, true, false}
 use mathlib.Core.List.{List}
 use Prim.Native.Nat.{ℕ, _+_, _-_, _<_, _≤_}
@@ -9,7 +9,6 @@ use lib.Dec.{eqb, ltb}
 use lib.ListN.{drop, getD, length, take}
 use Rattle.steering.specs.Reading.{readAt, recordAt}
 use Rattle.steering.specs.Records.{bodyLength, recordOf}
-use Rattle.steering.specs.declared.reading.Reading.{Reading}
 use Rattle.steering.specs.declared.reading.Reading.the-variants.{End, Found, Refused}
 use Rattle.steering.specs.declared.records.Record.{Record}
 

@@ -1,7 +1,7 @@
 -- An accepted table is exactly the bytes of its records in order. Assumes nothing.
-use mathlib.Core.Path.{_≡_, refl, sym, ap, ap₂, _∙_, subst}
+use mathlib.Core.Path.{_≡_, refl, sym, ap, ap₂, _∙_}
 use mathlib.Core.List.{List, [], _∷_, _++_}
-use Prim.Native.Nat.{ℕ, zero, suc, _+_, _-_, _<_, _≤_}
+use Prim.Native.Nat.{ℕ, zero, suc, _+_, _-_, _<_}
 use native.Mathlib.Numerals.{add-one}
 use native.Mathlib.Omega.{arith}
 use lib.ListN.{drop, getD, length, length-drop, take, take-append-drop}
@@ -9,12 +9,12 @@ use lib.Seq.{drop-cons, drop-drop, drop-length, length-take-le}
 use Rattle.steering.specs.Numbers.{AreBytes}
 use Rattle.steering.specs.Parsing.{Parsed, accepted, goOn, inFront, parse, parseFrom, refused, tableOf}
 use Rattle.steering.specs.Reading.{readAt}
-use Rattle.steering.specs.Records.{bodyLength, bodyOf, kindOf, recordOf}
+use Rattle.steering.specs.Records.{bodyLength, bodyOf, kindOf}
 use Rattle.steering.specs.declared.reading.Reading.{Reading}
 use Rattle.steering.specs.declared.reading.Reading.the-variants.{End, Found, Refused}
 use Rattle.steering.specs.declared.records.Record.{Record}
 use Rattle.steering.proofs.Laws.Numbers.{bytes-drop, bytes-take}
-use Rattle.steering.proofs.Laws.Reading.{Here, ended, found}
+use Rattle.steering.proofs.Laws.Reading.{ended, found}
 use Rattle.steering.proofs.Laws.Records.{Has, read-back}
 
 module _ (t : List ℕ) (b : AreBytes t) where

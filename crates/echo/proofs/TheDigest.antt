@@ -3,7 +3,7 @@
 -- digest at once does. A session behaves as the list of the bytes added: a piece is joined to its end, reading changes nothing, and an
 -- empty piece changes nothing. The sessions are those that the calls hand back. Assumes nothing.
 use mathlib.Core.Path.{_≡_, refl, sym, ap, _∙_}
-use mathlib.Core.Bool.{Bool, true, false}
+use mathlib.Core.Bool.{true, false}
 use mathlib.Core.List.{List, [], _∷_, _++_, append-assoc, append-nil}
 use Prim.Native.Nat.{ℕ, zero, suc, _+_, _/_, _≤_}
 use native.Mathlib.Omega.{arith}
@@ -12,7 +12,7 @@ use lib.Dec.{ltb}
 use lib.ListN.{drop, length, length-append}
 use Rattle.echo.specs.declared.session.Session.{Session}
 use Rattle.echo.specs.Digest.{digestOf}
-use Rattle.echo.specs.Session.{addAnswer, addBytes, addRefusal, admitted, digestLeaves, digestRefusal, isSession, limit, openAnswer, openRefusal, opened, readAnswer, readLeaves, readRefusal}
+use Rattle.echo.specs.Session.{addAnswer, addBytes, addRefusal, admitted, digestLeaves, digestRefusal, isSession, limit, openAnswer, openRefusal, opened, readAnswer, readLeaves}
 use Rattle.echo.proofs.Laws.AtOnce.{well-read}
 use Rattle.echo.proofs.Laws.Opened.{add-nothing, add-pieces, opened-is-session, opened-state, stateOf}
 

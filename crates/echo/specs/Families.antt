@@ -1,6 +1,6 @@
 -- Section 2: the two families, by the digest length h in bits or by the size of the chaining variable in bytes. Assumes nothing.
 use mathlib.Core.Bool.{Bool, true, false, _&&_, _||_}
-use Prim.Native.Nat.{ℕ, _-_}
+use Prim.Native.Nat.{ℕ}
 use lib.Dec.{eqb, leb}
 
 abbrev pub either : {A : Type 0} → Bool → A → A → A

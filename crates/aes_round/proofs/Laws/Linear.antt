@@ -5,7 +5,7 @@ use native.Mathlib.Nat.{mod-lt, zero-mul, one-mul, div-lt-iff-lt-mul, pow-suc, m
 use native.Mathlib.Omega.{arith}
 use lib.Arith.{lt-one}
 use lib.Pow.{pow-pos}
-use lib.Dec.{T, eqb, lit<}
+use lib.Dec.{T, lit<}
 use Rattle.aes_round.specs.Bytes.{xor}
 use Rattle.aes_round.proofs.Laws.Every.{Agree, agree, every, below}
 use Rattle.aes_round.proofs.Laws.Xor.{xor-lt, xor-self, xor-swap, xor-top}

@@ -1,10 +1,10 @@
 -- The mix of a column: it goes through xor, two matrices whose product is one undo each other, and its results are bytes. Assumes nothing.
-use mathlib.Core.Path.{_≡_, refl, sym, ap, ap₂, _∙_}
+use mathlib.Core.Path.{_≡_, refl, sym, ap₂, _∙_}
 use mathlib.Core.Bool.{Bool, true, false}
 use mathlib.Core.List.{List, [], _∷_}
 use Prim.Native.Nat.{ℕ, zero, suc, _+_, _*_, _^_, _<_}
 use native.Mathlib.Omega.{arith}
-use lib.Dec.{T, eqb, lit<, ltb, ltb→lt}
+use lib.Dec.{T, eqb, lit<}
 use lib.ListN.{getD, length}
 use Rattle.aes_round.specs.Bytes.{Bytes, tab, xor, xorBytes}
 use Rattle.aes_round.specs.Field.{mul}

@@ -1,18 +1,18 @@
 -- The steps of a round, the round, and their ways back. The layer above works from these laws: ways back undo in both orders, row
 -- shift and column mix go through xor, results are bytes again. Assumes nothing.
-use mathlib.Core.Path.{_≡_, refl, sym, ap, ap₂, _∙_, subst}
+use mathlib.Core.Path.{_≡_, refl, sym, ap, ap₂, _∙_}
 use mathlib.Core.List.{List, [], _∷_}
-use Prim.Native.Nat.{ℕ, zero, suc, _+_, _*_, _/_, _%_, _-_, _<_}
+use Prim.Native.Nat.{ℕ, _+_, _*_, _/_, _%_, _<_}
 use native.Mathlib.Nat.{mod-lt}
 use native.Mathlib.Omega.{arith}
-use lib.Dec.{T, lit<, ltb, ltb→lt}
+use lib.Dec.{lit<}
 use lib.ListN.{length, getD}
-use Rattle.aes_round.specs.Bytes.{Bytes, tab, xor, xorBytes}
+use Rattle.aes_round.specs.Bytes.{Bytes, tab, xorBytes}
 use Rattle.aes_round.specs.Array.{array, column, entry}
 use Rattle.aes_round.specs.Mixing.{backward, forward, mixColumn}
 use Rattle.aes_round.specs.Substitution.{Table, subByte, subByteBack}
 use Rattle.aes_round.specs.Rounds.{addRoundKey, aesRound, aesRoundBack, mixColumns, shiftBackFrom, shiftFrom, shiftRows, shiftRowsBack, subBytes, subBytesBack}
-use Rattle.aes_round.proofs.Laws.Every.{agree, below}
+use Rattle.aes_round.proofs.Laws.Every.{agree}
 use Rattle.aes_round.proofs.Laws.Bytes.{getD-tab, is-tab, length-tab, tab-bytes, tab-ext}
 use Rattle.aes_round.proofs.Laws.Xor.{getD-xor, length-xor, xor-bytes, xor-bytes-twice}
 use Rattle.aes_round.proofs.Laws.Array.{array-bytes, array-ext, column-bytes, column-xor, entry-array, entry-byte, entry-xor, getD-column, is-array, length-array, xor-array}

@@ -1,19 +1,18 @@
 -- The mix of a column of four words, byte position after byte position, and of the four columns of a square. Assumes nothing.
-use mathlib.Core.Path.{_≡_, refl, sym, ap, ap₂, _∙_, subst}
+use mathlib.Core.Path.{_≡_, refl, sym, ap, _∙_, subst}
 use mathlib.Core.Logic.{⊎-elim}
 use mathlib.Core.List.{List, [], _∷_, _++_}
-use Prim.Native.Nat.{ℕ, zero, suc, _+_, _*_, _/_, _%_, _-_, _<_, _≤_}
+use Prim.Native.Nat.{ℕ, zero, suc, _+_, _*_, _/_, _%_, _<_, _≤_}
 use native.Mathlib.Nat.{eq-or-lt-of-le, le-of-suc-le-suc, mod-lt, not-suc-le-zero, zero-add}
 use native.Mathlib.Omega.{arith}
 use lib.Dec.{lit<, lit≤}
 use lib.ListN.{drop, getD, length, length-set, set, take}
 use lib.Seq.{ext-getD, getD-drop, getD-set-other, getD-set-same, getD-take}
-use Rattle.aes_round.specs.Array.{array, column, entry}
-use Rattle.aes_round.specs.Bytes.{tab}
+use Rattle.aes_round.specs.Array.{column}
 use Rattle.aes_round.specs.Mixing.{mixColumn}
 use Rattle.aes_round.specs.Rounds.{mixColumns}
 use Rattle.aes_round.proofs.Laws.Array.{entry-is, getD-column, is-array, length-column, tab-array}
-use Rattle.aes_round.proofs.Laws.Bytes.{getD-tab, is-tab, length-tab, tab-ext}
+use Rattle.aes_round.proofs.Laws.Bytes.{getD-tab, is-tab, length-tab}
 use Rattle.aes_round.proofs.Laws.Fill.{Filled, fill-all, fill-none}
 use Rattle.aes_round.proofs.Laws.Rounds.{entry-mix, length-mix-columns}
 use Rattle.echo.specs.Placed.{Placed}

@@ -1,16 +1,15 @@
 -- Folds and BIG.Final. Assumes nothing.
-use mathlib.Core.Path.{_≡_, refl, sym, ap, ap₂, _∙_, subst}
+use mathlib.Core.Path.{_≡_, refl, sym, ap, ap₂, _∙_}
 use mathlib.Core.Logic.{⊎-elim}
 use mathlib.Core.List.{List, _++_}
 use Prim.Native.Nat.{ℕ, zero, suc, _+_, _*_, _/_, _-_, _<_, _≤_}
-use native.Mathlib.Nat.{add-comm, add-zero, mul-comm, mul-div-cancel-left, mul-le-mul-left, mul-suc, mul-zero, not-suc-le-zero, zero-add}
+use native.Mathlib.Nat.{add-comm, mul-div-cancel-left, mul-le-mul-left, mul-suc, mul-zero, not-suc-le-zero, zero-add}
 use native.Mathlib.Numerals.{add-one}
 use native.Mathlib.Omega.{arith}
-use lib.ListN.{drop, getD, length, length-append, take}
-use lib.Seq.{getD-drop, getD-take}
-use Rattle.aes_round.specs.Bytes.{Bytes, tab, xor, xorBytes}
+use lib.ListN.{getD, length, length-append}
+use Rattle.aes_round.specs.Bytes.{tab, xor, xorBytes}
 use Rattle.aes_round.proofs.Laws.Bytes.{getD-tab, length-tab, lt-or-le, same-list, tab-ext}
-use Rattle.aes_round.proofs.Laws.Xor.{getD-xor, length-xor, xor-assoc, xor-lt, xor-zero-l, xor-zero-r}
+use Rattle.aes_round.proofs.Laws.Xor.{getD-xor, length-xor, xor-assoc, xor-zero-l, xor-zero-r}
 use Rattle.echo.specs.Compression.{bigFinal, compress, fold, xorSum}
 use Rattle.echo.specs.Placed.{Placed}
 use Rattle.echo.specs.Square.{rounds}

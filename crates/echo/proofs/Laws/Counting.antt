@@ -1,7 +1,7 @@
 -- Counting bytes by blocks of b. Assumes nothing.
-use mathlib.Core.Path.{_≡_, sym, ap, _∙_}
-use Prim.Native.Nat.{ℕ, _+_, _*_, _/_, _%_, _<_, _≤_}
-use native.Mathlib.Nat.{div-add-mod, div-eq-of-lt, div-self, mod-eq-of-lt, mod-lt, mod-self, mul-add-div, mul-add-mod-self-left}
+use mathlib.Core.Path.{_≡_, ap, _∙_}
+use Prim.Native.Nat.{ℕ, _+_, _*_, _/_, _%_, _<_}
+use native.Mathlib.Nat.{div-add-mod, div-eq-of-lt, div-self, mod-eq-of-lt, mod-self, mul-add-div, mul-add-mod-self-left}
 use native.Mathlib.Omega.{arith}
 
 module _ (b : ℕ) (pos : 0 < b) where

@@ -6,7 +6,7 @@ use Prim.Native.Nat.{ℕ, zero, suc, _+_, _-_, _%_, _/_, _^_, _<_, _≤_}
 use native.Mathlib.Nat.{div-eq-of-lt, div-one, lt-of-lt-of-le, mod-lt, pow-le-pow-right}
 use native.Mathlib.Omega.{arith}
 use lib.Dec.{lit<}
-use lib.ListN.{getD, getD-replicate, length, length-append, replicate}
+use lib.ListN.{getD, getD-replicate, length-append, replicate}
 use Rattle.aes_round.specs.Bytes.{Bytes, tab}
 use Rattle.aes_round.proofs.Laws.Bytes.{bytes-are, getD-tab, is-tab, length-tab, lt-or-le, tab-bytes}
 use Rattle.echo.specs.Numbers.{littleEndian}

@@ -8,7 +8,7 @@ use native.Mathlib.Omega.{arith}
 use lib.ListN.{drop, length}
 use Rattle.echo.specs.declared.session.Answer.{Answer}
 use Rattle.echo.specs.Digest.{digestOf}
-use Rattle.echo.specs.Session.{addAnswer, admitted, isSession, limit, openAnswer, opened, readAnswer, readLeaves, sessionDigest}
+use Rattle.echo.specs.Session.{addAnswer, admitted, limit, openAnswer, opened, readAnswer, readLeaves, sessionDigest}
 use Rattle.echo.proofs.Laws.Opened.{add-nothing, add-state, opened-digest, opened-state, stateOf, state-is-session}
 use Rattle.echo.proofs.Laws.Sessions.{added, open-0, read-0}
 

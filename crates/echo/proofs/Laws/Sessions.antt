@@ -1,14 +1,14 @@
 -- Laws of the session's definitions, over plain records. Assumes nothing.
 use mathlib.Core.Path.{_≡_, refl, sym, ap, ap₂, _∙_, subst}
-use mathlib.Core.Bool.{Bool, true, false, not, _&&_, true≢false}
+use mathlib.Core.Bool.{Bool, true, false, _&&_, true≢false}
 use mathlib.Core.Logic.{⊎-elim}
-use mathlib.Core.List.{List, [], _∷_, _++_}
-use Prim.Native.Nat.{ℕ, zero, suc, _+_, _*_, _-_, _/_, _%_, _^_, _<_, _≤_}
+use mathlib.Core.List.{List, _++_}
+use Prim.Native.Nat.{ℕ, _+_, _*_, _-_, _/_, _%_, _^_, _<_, _≤_}
 use native.Mathlib.Nat.{zero-add}
 use native.Mathlib.Numerals.{add-one}
 use native.Mathlib.Omega.{arith}
-use borrow.Author.Tests.{eq-eqb, eqb-true, le-leb, leb-true, lt-leb, lt-ltb, ltb-false, ne-eqb, not-false, le-ltb}
-use lib.Dec.{eqb, leb, ltb}
+use borrow.Author.Tests.{eq-eqb, eqb-true, le-leb, leb-true, lt-leb, lt-ltb, ne-eqb, le-ltb}
+use lib.Dec.{leb}
 use lib.ListN.{drop, getD, getD-replicate, length, length-append, length-drop, length-replicate, replicate, set, take, take-append-drop}
 use lib.Seq.{drop-cons, drop-length, getD-drop, length-take-le, take-append-le}
 use Rattle.aes_round.specs.Bytes.{tab}
@@ -17,7 +17,7 @@ use Rattle.aes_round.proofs.Laws.Fill.{Filled}
 use Rattle.echo.specs.declared.session.Answer.{Answer}
 use Rattle.echo.specs.declared.session.Session.{Session}
 use Rattle.echo.specs.Compression.{compress}
-use Rattle.echo.specs.Families.{blockSize, chainingSize, either, roundCount}
+use Rattle.echo.specs.Families.{blockSize, chainingSize, roundCount}
 use Rattle.echo.specs.Placed.{Placed}
 use Rattle.echo.specs.Session.{addAnswer, addByte, addBytes, addRefusal, admitted, allZero, blank, compressed, finalChaining, isSession, limit, made, openAnswer, openRefusal, opened, readAnswer, readLeaves, readRefusal, sessionDigest}
 use Rattle.echo.specs.Square.{keysFrom}

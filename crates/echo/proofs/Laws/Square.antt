@@ -1,21 +1,19 @@
 -- The steps of a round on the square: results are squares again, the ways back undo, and row shift and column mix go through xor.
 -- Assumes nothing.
-use mathlib.Core.Path.{_≡_, refl, sym, ap, _∙_, subst}
-use mathlib.Core.List.{List, _++_}
-use Prim.Native.Nat.{ℕ, zero, suc, _+_, _*_, _/_, _%_, _^_, _<_, _≤_}
+use mathlib.Core.Path.{_≡_, refl, sym, ap, _∙_}
+use mathlib.Core.List.{List}
+use Prim.Native.Nat.{ℕ, zero, suc, _+_, _*_, _<_}
 use native.Mathlib.Nat.{add-assoc}
 use native.Mathlib.Numerals.{add-one}
-use native.Mathlib.Omega.{arith}
-use lib.Dec.{lit<}
-use lib.ListN.{getD, length, replicate, length-append}
+use lib.ListN.{getD, length}
 use Rattle.aes_round.specs.Array.{array, entry}
-use Rattle.aes_round.specs.Bytes.{Bytes, tab, xorBytes}
+use Rattle.aes_round.specs.Bytes.{Bytes}
 use Rattle.aes_round.specs.Mixing.{backward, forward}
 use Rattle.aes_round.specs.Rounds.{aesRound, aesRoundBack}
 use Rattle.aes_round.proofs.Laws.Array.{array-bytes, array-ext, entry-array, entry-byte, is-array}
-use Rattle.aes_round.proofs.Laws.Bytes.{getD-tab, is-tab, length-tab, tab-bytes}
+use Rattle.aes_round.proofs.Laws.Bytes.{getD-tab, is-tab, tab-bytes}
 use Rattle.aes_round.proofs.Laws.Mixing.{backward-bytes, forward-bytes}
-use Rattle.aes_round.proofs.Laws.Rounds.{length-round, length-round-back, mix-columns-back-undone, mix-columns-bytes, mix-columns-undone, mix-columns-xor, round-back-bytes, round-back-undone, round-bytes, round-undone, shift-back-bytes, shift-back-undone, shift-bytes, shift-undone, shift-xor}
+use Rattle.aes_round.proofs.Laws.Rounds.{length-round, length-round-back, mix-columns-back-undone, mix-columns-bytes, mix-columns-undone, round-back-bytes, round-back-undone, round-bytes, round-undone, shift-back-bytes, shift-back-undone, shift-bytes, shift-undone}
 use Rattle.echo.specs.Square.{bigMixColumns, bigMixColumnsBack, bigRound, bigRoundBack, bigShiftRows, bigShiftRowsBack, bigSubWords, bigSubWordsBack, counterKey, keysFrom, rounds, roundsBack, word}
 
 -- the subkeys are words

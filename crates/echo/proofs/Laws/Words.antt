@@ -1,26 +1,21 @@
 -- Loops over the words and the columns of a square. Assumes nothing.
-use mathlib.Core.Path.{_≡_, refl, sym, ap, ap₂, _∙_, subst}
-use mathlib.Core.Logic.{⊎-elim}
-use mathlib.Core.List.{List, [], _∷_, _++_}
-use Prim.Native.Nat.{ℕ, zero, suc, _+_, _*_, _/_, _%_, _-_, _<_, _≤_}
-use native.Mathlib.Nat.{eq-or-lt-of-le, le-of-suc-le-suc, mod-lt, zero-add}
+use mathlib.Core.Path.{_≡_, sym, ap, ap₂, _∙_, subst}
+use mathlib.Core.List.{List}
+use Prim.Native.Nat.{ℕ, _+_, _*_, _/_, _%_, _<_, _≤_}
+use native.Mathlib.Nat.{zero-add}
 use native.Mathlib.Omega.{arith}
-use lib.Dec.{lit<}
-use lib.ListN.{drop, getD, length, length-set, set, take}
-use lib.Seq.{getD-set-other, getD-set-same}
-use Rattle.aes_round.specs.Array.{array, column, entry}
+use lib.ListN.{getD, length}
+use Rattle.aes_round.specs.Array.{array}
 use Rattle.aes_round.specs.Bytes.{tab}
-use Rattle.aes_round.specs.Mixing.{mixColumn}
-use Rattle.aes_round.specs.Rounds.{mixColumns, shiftBackFrom, shiftFrom}
-use Rattle.aes_round.proofs.Laws.Array.{array-ext, entry-is, getD-column, is-array, tab-array}
-use Rattle.aes_round.proofs.Laws.Bytes.{getD-tab, is-tab, length-tab, tab-ext}
+use Rattle.aes_round.specs.Rounds.{shiftBackFrom, shiftFrom}
+use Rattle.aes_round.proofs.Laws.Array.{entry-is, is-array, tab-array}
+use Rattle.aes_round.proofs.Laws.Bytes.{getD-tab, is-tab, tab-ext}
 use Rattle.aes_round.proofs.Laws.Every.{agree}
 use Rattle.aes_round.proofs.Laws.Fill.{Filled, fill-all, fill-none}
-use Rattle.aes_round.proofs.Laws.Rounds.{entry-mix, entry-shift, entry-shift-back, length-mix-columns, length-shift, length-shift-back}
+use Rattle.aes_round.proofs.Laws.Rounds.{entry-shift, entry-shift-back, length-shift, length-shift-back}
 use Rattle.echo.specs.Placed.{Placed}
-use Rattle.echo.specs.Square.{bigShiftRows, bigShiftRowsBack, mixWords, word}
+use Rattle.echo.specs.Square.{bigShiftRows, bigShiftRowsBack, word}
 use Rattle.echo.proofs.Laws.Placed.{fill-part}
-use Rattle.echo.proofs.Laws.Square.{getD-word}
 
 -- a word by the bytes that the code reads
 pub word-is : (s : List ℕ) (i : ℕ) → word s i ≡ tab 16 (λ b. getD s (16 * i + b) 0)

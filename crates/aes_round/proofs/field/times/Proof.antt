@@ -2,7 +2,7 @@
 -- The measure is p, which is halved. Assumes nothing.
 use mathlib.Core.Logic.{⊎-elim}
 use mathlib.Core.Path.{_∙_, _≡_, ap, sym}
-use Prim.Native.Nat.{_%_, _-_, _<_, ℕ}
+use Prim.Native.Nat.{_%_, _<_, ℕ}
 use native.Mathlib.Nat.{eq-or-lt-of-le, le-of-suc-le-suc, mod-lt}
 use native.Mathlib.Omega.{arith}
 use lib.Dec.{lit<}

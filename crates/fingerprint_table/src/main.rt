@@ -41,11 +41,16 @@ fn print_fingerprint(salt: &[u8], k: usize, table: &[u8], n: usize)
     print_line(&out);
 }
 
-// One byte more than the longest table: with it the table is refused, and nothing behind it is read.
+// One byte more than the longest table: with it the table is refused, and nothing behind it is read. An input that ends within the salt
+// has no table, and is not read on.
 fn main() {
     let mut salt = [0u8; 16];
     let mut room = [0u8; 4097];
     let k = io::read_full(STDIN_FILENO, &mut salt);
+    if k < 16 {
+        print_fingerprint(&salt, k, &room, 0);
+        return;
+    }
     let n = io::read_full(STDIN_FILENO, &mut room);
     print_fingerprint(&salt, k, &room, n);
 }

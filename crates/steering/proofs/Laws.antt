@@ -5,3 +5,4 @@ pub mod Parsing
 pub mod Tables
 pub mod Fingerprint
 pub mod Example
+pub mod Complete

@@ -55,10 +55,6 @@ module _ (w : ℕ) where
       is-tab (16 * w) l _ e
       (λ k lt. ap (λ (m : ℕ). getD l m 0) (sym (div-add-mod k w)) ∙ h (k / w) (k % w) (entry-lt k lt) (byte-lt k lt))
 
-  -- two lists with the same entries
-  pub same-entries : (l m : List ℕ) → length l ≡ 16 * w → length m ≡ 16 * w → ((e b : ℕ) → e < 16 → b < w → entry w l e b ≡ entry w m e b) → l ≡ m
-  same-entries l m hl hm h = is-array l (entry w m) hl h ∙ sym (is-array m (entry w m) hm (λ e b he hb. refl))
-
   -- bytes in a row, as an array
   pub tab-array : (f : ℕ → ℕ) (g : ℕ → ℕ → ℕ) → ((e b : ℕ) → e < 16 → b < w → f (w * e + b) ≡ g e b) → tab (16 * w) f ≡ array w g
   tab-array f g h =

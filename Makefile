@@ -2,7 +2,8 @@
 # make test   the gate
 .PHONY: all test
 
-# The example: a steering table's records and its fingerprint, and the published digests of the empty message at 224, 256, 384 and 512 bits, each at once and over a session.
+# The example: a steering table's records and its fingerprint, and the published digests of the empty message at 224, 256, 384 and 512
+# bits, each at once and over a session.
 all:
 	rt check
 	tools/run list_table <crates/list_table/stdin

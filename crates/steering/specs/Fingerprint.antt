@@ -22,7 +22,7 @@ abbrev pub bodiesOf : Parsed → List ℕ
 bodiesOf (accepted rs) = bodies rs
 bodiesOf (refused number place) = []
 
--- the session of all bodies
+-- the session of all bodies, for the contract of a private function
 unfoldable pub joinedAnswer : List ℕ → List ℕ → Answer
 joinedAnswer salt table = record { refusal = 0; session = addBytes (opened 256 salt) (bodiesOf (parse table)) }
 

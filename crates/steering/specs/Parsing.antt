@@ -24,7 +24,7 @@ goOn (Found r next) rest = inFront r (rest next)
 goOn End rest = accepted []
 goOn (Refused number place) rest = refused number place
 
--- from a place on; the first argument is above the number of records
+-- from a place on; the first argument is above the number of records, so that its 0 is never met
 unfoldable pub parseFrom : ℕ → List ℕ → ℕ → Parsed
 parseFrom zero table place = refused 8 0
 parseFrom (suc n) table place = goOn (readAt table place) (parseFrom n table)

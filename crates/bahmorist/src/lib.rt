@@ -1,0 +1,72 @@
+// The library as C and Rust see it: include/bahmorist.h declares these functions. A slice is a pointer and a length there. Each answers as
+// the routine below that it calls, and so its contract is that routine's.
+ghost use mathlib.Core.Path.{_≡_};
+ghost use lib.ListN.{length};
+ghost use Rattle.echo.specs.Routines.{compressLeaves, compressRefusal, roundsBackLeave, roundsLeave, roundsRefusal};
+ghost use Rattle.echo.specs.Session.{digestLeaves, digestRefusal};
+ghost use Rattle.steering.specs.Fingerprint.{fingerprintAnswer, fingerprintLeaves};
+ghost use Rattle.steering.specs.Parsing.{parse};
+
+// The digest of a message at the front of `out`, and 0; or a refusal by 1, 2, 4 or 5.
+#[no_mangle]
+pub extern "C" fn bahmorist_digest(bits: u64, salt: &[u8], message: &[u8], out: &mut [u8]) -> u8
+    ensures refusal { λ r. ⌜ r ≡ digestRefusal bits (length (now (salt .entry))) (length (now (message .entry))) (length (now (out .entry))) ⌝ }
+    ensures left { λ _. ⌜ now (out .exit) ≡ digestLeaves bits (now (salt .entry)) (now (message .entry)) (now (out .entry)) ⌝ }
+{
+    echo::digest(bits, salt, message, out)
+}
+
+// The square after 8 or 10 rounds that count on from `counter`, and 0; or a refusal by 2, 6 or 7.
+#[no_mangle]
+pub extern "C" fn bahmorist_rounds(square: &mut [u8], rounds: u64, counter: u64, salt: &[u8]) -> u8
+    ensures refusal { λ r. ⌜ r ≡ roundsRefusal (length (now (square .entry))) rounds counter (length (now (salt .entry))) ⌝ }
+    ensures left { λ _. ⌜ now (square .exit) ≡ roundsLeave (now (square .entry)) rounds counter (now (salt .entry)) ⌝ }
+{
+    echo::rounds(square, rounds, counter, salt)
+}
+
+// The square that those rounds took to this one, and 0; or a refusal by 2, 6 or 7.
+#[no_mangle]
+pub extern "C" fn bahmorist_rounds_back(
+    square: &mut [u8],
+    rounds: u64,
+    counter: u64,
+    salt: &[u8],
+) -> u8
+    ensures refusal { λ r. ⌜ r ≡ roundsRefusal (length (now (square .entry))) rounds counter (length (now (salt .entry))) ⌝ }
+    ensures left { λ _. ⌜ now (square .exit) ≡ roundsBackLeave (now (square .entry)) rounds counter (now (salt .entry)) ⌝ }
+{
+    echo::rounds_back(square, rounds, counter, salt)
+}
+
+// The next chaining value in the place of this one, and 0; or a refusal by 2, 6 or 7.
+#[no_mangle]
+pub extern "C" fn bahmorist_compress(
+    chaining: &mut [u8],
+    block: &[u8],
+    counter: u64,
+    salt: &[u8],
+) -> u8
+    ensures refusal { λ r. ⌜ r ≡ compressRefusal (length (now (chaining .entry))) (length (now (block .entry))) counter (length (now (salt .entry))) ⌝ }
+    ensures left { λ _. ⌜ now (chaining .exit) ≡ compressLeaves (now (chaining .entry)) (now (block .entry)) counter (now (salt .entry)) ⌝ }
+{
+    echo::compress(chaining, block, counter, salt)
+}
+
+// The fingerprint of a table at the front of `out`, and 0; or a refusal by 2, 5, 8, 9 or 10. `place` is written on every call: the place of
+// the kind byte with 9 and 10, and else 0.
+#[no_mangle]
+pub extern "C" fn bahmorist_fingerprint(
+    salt: &[u8],
+    table: &[u8],
+    out: &mut [u8],
+    place: &mut u64,
+) -> u8
+    ensures refusal { λ r. ⌜ r ≡ fingerprintAnswer (length (now (salt .entry))) (length (now (out .entry))) (parse (now (table .entry))) .refusal ⌝ }
+    ensures left { λ _. ⌜ now (out .exit) ≡ fingerprintLeaves (now (salt .entry)) (parse (now (table .entry))) (now (out .entry)) ⌝ }
+    ensures place { λ _. ⌜ now (place .exit) ≡ fingerprintAnswer (length (now (salt .entry))) (length (now (out .entry))) (parse (now (table .entry))) .place ⌝ }
+{
+    let answer = steering::fingerprint(salt, table, out);
+    *place = answer.place as u64;
+    answer.refusal
+}

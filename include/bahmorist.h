@@ -1,0 +1,61 @@
+/* ECHO 2.0 digests, its round mixing forward and backward, and fingerprints of steering tables.
+ *
+ * Link target/staticlib/libbahmorist.a, which `rt staticlib bahmorist` makes for x86-64 Linux; `tools/library` makes
+ * target/native/libbahmorist.a for the machine at hand. The library keeps nothing between calls, allocates nothing and may be called from
+ * several threads at once. A digest takes some 4,500 bytes of stack.
+ *
+ * Each function answers 0, or the number that it refuses by:
+ *
+ *    1  the digest length is not a multiple of 8 from 128 to 512
+ *    2  the salt is not 16 bytes
+ *    4  the message is over 2^61 - 21 bytes
+ *    5  the output room is under bits / 8 bytes, or under 32 for a fingerprint
+ *    6  chaining and block sizes are neither 64 and 192 nor 128 and 128; the square is not 256 bytes; the round count is not 8 or 10
+ *    7  the starting counter is above 2^64 - 161
+ *    8  the table is over 4,096 bytes
+ *    9  unknown kind byte in the table
+ *   10  record of the table cut short
+ *   11  the digest layer refused what the table layer had passed; no input leads there
+ *
+ * Where several apply the lowest is given, but between 9 and 10 that of the record nearer the table's front. A function that refuses writes
+ * to no buffer; bahmorist_fingerprint writes *place even then.
+ *
+ * What a caller must give: a pointer and a length name that many bytes, which nothing else writes during the call. Memory that a function
+ * writes (a pointer without const) overlaps none of its other arguments. Where a length is 0 nothing is read or written there, and any
+ * pointer will do, NULL included. Nothing checks these; every number and every length is checked by the function itself. */
+#ifndef BAHMORIST_H
+#define BAHMORIST_H
+
+#include <stddef.h>
+#include <stdint.h>
+
+#ifdef __cplusplus
+extern "C" {
+#endif
+
+/* Puts the digest of the message, bits / 8 bytes, at the front of out; bytes behind it stay. Refuses by 1, 2, 4 or 5. The salt is sixteen
+ * zeros where there is none. */
+uint8_t bahmorist_digest(uint64_t bits, const uint8_t *salt, size_t salt_len, const uint8_t *message, size_t message_len, uint8_t *out,
+                         size_t out_len);
+
+/* Rewrites the square by 8 or 10 of ECHO's rounds, whose inner counter starts at counter. Refuses by 2, 6 or 7. */
+uint8_t bahmorist_rounds(uint8_t *square, size_t square_len, uint64_t rounds, uint64_t counter, const uint8_t *salt, size_t salt_len);
+
+/* Undoes bahmorist_rounds with the same rounds, counter and salt. Refuses by 2, 6 or 7. */
+uint8_t bahmorist_rounds_back(uint8_t *square, size_t square_len, uint64_t rounds, uint64_t counter, const uint8_t *salt, size_t salt_len);
+
+/* Rewrites the chaining value to the one after this block, with 8 rounds where it is 64 bytes and 10 where it is 128. Refuses by 2, 6 or
+ * 7. */
+uint8_t bahmorist_compress(uint8_t *chaining, size_t chaining_len, const uint8_t *block, size_t block_len, uint64_t counter,
+                           const uint8_t *salt, size_t salt_len);
+
+/* Puts the fingerprint of a steering table, 32 bytes, at the front of out; bytes behind it stay. Refuses by 2, 5, 8, 9 or 10. place, which
+ * is not NULL, gets the place of the record's kind byte with 9 and 10, and else 0. */
+uint8_t bahmorist_fingerprint(const uint8_t *salt, size_t salt_len, const uint8_t *table, size_t table_len, uint8_t *out, size_t out_len,
+                              uint64_t *place);
+
+#ifdef __cplusplus
+}
+#endif
+
+#endif

@@ -3,20 +3,16 @@ use mathlib.Core.Path.{_≡_, refl, sym, ap, _∙_}
 use mathlib.Core.List.{List}
 use Prim.Native.Nat.{ℕ, zero, suc, _<_, min}
 use native.Mathlib.Omega.{arith}
-use lib.Dec.{T, lit<, ltb, ltb→lt}
+use mathlib.Core.Bool.{Bool}
+use lib.Dec.{T, eqb, eqb→eq, lit<, ltb, ltb→lt}
 use lib.ListN.{getD}
 use Rattle.aes_round.specs.Bytes.{xor}
 use Rattle.aes_round.specs.Field.{mul}
 use Rattle.aes_round.specs.Substitution.{Table, affine, affineBack, inverse, squares, subByte, subByteBack}
-use Rattle.aes_round.proofs.Laws.Every.{Agree, agree, below}
+use Rattle.aes_round.proofs.Laws.Every.{agree, below, both, both-left, both-right, every}
 use Rattle.aes_round.proofs.Laws.Field.{mul-assoc, mul-comm, mul-lt, mul-one-l, mul-zero-l}
 
 -- ---- tables
-
--- a table follows its rule where one test over its entries passes
-pub table-is : (f : ℕ → ℕ) (t : List ℕ) → T (Agree (λ x. getD t x 0) f 256) → Table f t
-unfolding Table
-table-is f t test = agree (λ x. getD t x 0) f 256 test
 
 pub table-at : (f : ℕ → ℕ) (t : List ℕ) → Table f t → (x : ℕ) → x < 256 → getD t x 0 ≡ f x
 unfolding Table
@@ -66,6 +62,37 @@ inverse-twice (suc n) h =
     ∙ mul-comm x 1 h (lit< tt)
     ∙ mul-one-l x h
 
+-- e passes as the inverse of a: a byte whose product with a is 1, and 0 for 0
+abbrev pub IsInverse : ℕ → ℕ → Bool
+IsInverse a e = both (ltb e 256) (both (eqb (mul a e) (min a 1)) (eqb (min e 1) (min a 1)))
+
+-- only the inverse passes: with y the inverse of a, e = 1 e = (y a) e = y (a e) = y 1 = y. One product in the test, where x^254 has thirteen.
+inverse-only : (a e : ℕ) → a < 256 → T (IsInverse a e) → e ≡ inverse a
+inverse-only a e h t = by a h (ltb→lt e 256 (both-left (ltb e 256) rest t)) (eqb→eq (mul a e) (min a 1) (both-left product none (both-right (ltb e 256) rest t))) (eqb→eq (min e 1) (min a 1) (both-right product none (both-right (ltb e 256) rest t)))
+  where
+    product : Bool
+    product = eqb (mul a e) (min a 1)
+
+    none : Bool
+    none = eqb (min e 1) (min a 1)
+
+    rest : Bool
+    rest = both product none
+
+    by : (a : ℕ) → a < 256 → e < 256 → mul a e ≡ min a 1 → min e 1 ≡ min a 1 → e ≡ inverse a
+    by zero h he p q = omega (arith, q) ∙ sym inverse-zero
+    by (suc n) h he p q =
+        let a = suc n in
+        let y = inverse a in
+        let hy : y < 256 = inverse-lt a h in
+        let one : min a 1 ≡ 1 = omega arith in
+        sym (mul-one-l e he)
+        ∙ ap (λ (u : ℕ). mul u e) (sym (inverse-is a (omega arith) h) ∙ mul-comm a y h hy)
+        ∙ mul-assoc y a e hy h he
+        ∙ ap (mul y) (p ∙ one)
+        ∙ mul-comm y 1 hy (lit< tt)
+        ∙ mul-one-l y hy
+
 -- ---- the affine map
 
 affine-undone : (x : ℕ) → x < 256 → affineBack (affine x) ≡ x
@@ -101,3 +128,16 @@ sub-undone x h = ap inverse (affine-undone (inverse x) (inverse-lt x h)) ∙ inv
 pub sub-back-undone : (x : ℕ) → x < 256 → subByte (subByteBack x) ≡ x
 unfolding subByte subByteBack
 sub-back-undone x h = ap affine (inverse-twice (affineBack x) (affine-back-lt x h)) ∙ affine-back-undone x h
+
+-- ---- the two tables: each follows its rule where one test over its 256 entries passes
+
+pub sub-table-is : (t : List ℕ) → T (every (λ x. ltb (getD t x 0) 256) 256) → T (every (λ x. IsInverse x (affineBack (getD t x 0))) 256) → Table subByte t
+unfolding Table subByte
+sub-table-is t bytes inverses x h =
+    sym (affine-back-undone (getD t x 0) (ltb→lt (getD t x 0) 256 (below (λ x. ltb (getD t x 0) 256) 256 bytes x h)))
+    ∙ ap affine (inverse-only x (affineBack (getD t x 0)) h (below (λ x. IsInverse x (affineBack (getD t x 0))) 256 inverses x h))
+
+pub sub-back-table-is : (t : List ℕ) → T (every (λ x. IsInverse (affineBack x) (getD t x 0)) 256) → Table subByteBack t
+unfolding Table subByteBack
+sub-back-table-is t test x h =
+    inverse-only (affineBack x) (getD t x 0) (affine-back-lt x h) (below (λ x. IsInverse (affineBack x) (getD t x 0)) 256 test x h)

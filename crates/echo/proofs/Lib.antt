@@ -1,4 +1,5 @@
 -- What is proved of the definitions in specs/, apart from any function.
 pub mod Laws
 pub mod NothingIsLost
+pub mod OneAnswer
 pub mod TheDigest

@@ -1,0 +1,2 @@
+-- What is proved of the contracts, apart from any function.
+pub mod OneAnswer

@@ -1,0 +1,24 @@
+-- No second answer meets a public routine's contract: two results, and two states of the memory lent for writing, that both meet it are
+-- equal. `Post` is the routine's contract as it stands in src/, of the arguments a, the result r and the parameters at exit s. Assumes nothing.
+use mathlib.Core.Path.{_≡_, sym, _∙_}
+use denote.Ref.{now}
+use Rattle.bahmorist.proofs.bahmorist_digest.Reads as bahmorist_digest
+use Rattle.bahmorist.proofs.bahmorist_rounds.Reads as bahmorist_rounds
+use Rattle.bahmorist.proofs.bahmorist_rounds_back.Reads as bahmorist_rounds_back
+use Rattle.bahmorist.proofs.bahmorist_compress.Reads as bahmorist_compress
+use Rattle.bahmorist.proofs.bahmorist_fingerprint.Reads as bahmorist_fingerprint
+
+pub bahmorist-digest-has-one-answer : (κs : _) (a : _) (r r′ : _) (s s′ : _) → bahmorist_digest.Post κs a r s → bahmorist_digest.Post κs a r′ s′ → (r ≡ r′) × (now (s .1 .1 .1 .0) ≡ now (s′ .1 .1 .1 .0))
+bahmorist-digest-has-one-answer κs a r r′ s s′ p q = (p .0 ∙ sym (q .0), p .1 ∙ sym (q .1))
+
+pub bahmorist-rounds-has-one-answer : (κs : _) (a : _) (r r′ : _) (s s′ : _) → bahmorist_rounds.Post κs a r s → bahmorist_rounds.Post κs a r′ s′ → (r ≡ r′) × (now (s .0) ≡ now (s′ .0))
+bahmorist-rounds-has-one-answer κs a r r′ s s′ p q = (p .0 ∙ sym (q .0), p .1 ∙ sym (q .1))
+
+pub bahmorist-rounds-back-has-one-answer : (κs : _) (a : _) (r r′ : _) (s s′ : _) → bahmorist_rounds_back.Post κs a r s → bahmorist_rounds_back.Post κs a r′ s′ → (r ≡ r′) × (now (s .0) ≡ now (s′ .0))
+bahmorist-rounds-back-has-one-answer κs a r r′ s s′ p q = (p .0 ∙ sym (q .0), p .1 ∙ sym (q .1))
+
+pub bahmorist-compress-has-one-answer : (κs : _) (a : _) (r r′ : _) (s s′ : _) → bahmorist_compress.Post κs a r s → bahmorist_compress.Post κs a r′ s′ → (r ≡ r′) × (now (s .0) ≡ now (s′ .0))
+bahmorist-compress-has-one-answer κs a r r′ s s′ p q = (p .0 ∙ sym (q .0), p .1 ∙ sym (q .1))
+
+pub bahmorist-fingerprint-has-one-answer : (κs : _) (a : _) (r r′ : _) (s s′ : _) → bahmorist_fingerprint.Post κs a r s → bahmorist_fingerprint.Post κs a r′ s′ → (r ≡ r′) × (now (s .1 .1 .0) ≡ now (s′ .1 .1 .0)) × (now (s .1 .1 .1 .0) ≡ now (s′ .1 .1 .1 .0))
+bahmorist-fingerprint-has-one-answer κs a r r′ s s′ p q = (p .0 ∙ sym (q .0), p .1 .0 ∙ sym (q .1 .0), p .1 .1 ∙ sym (q .1 .1))

@@ -1,0 +1,36 @@
+-- No second answer meets a public routine's contract: two results, and two states of the memory lent for writing, that both meet it are
+-- equal. `Post` is the routine's contract as it stands in src/, of the arguments a, the result r and the parameters at exit s. Assumes nothing.
+use mathlib.Core.Path.{_≡_, sym, _∙_}
+use denote.Ref.{now}
+use Rattle.echo.proofs.run.rounds.Reads as rounds
+use Rattle.echo.proofs.run.rounds_back.Reads as rounds_back
+use Rattle.echo.proofs.compression.compress.Reads as compress
+use Rattle.echo.proofs.session.Session.«open».Reads as opening
+use Rattle.echo.proofs.session.Session.is_session.Reads as is_session
+use Rattle.echo.proofs.session.Session.add.Reads as add
+use Rattle.echo.proofs.session.Session.read.Reads as read
+use Rattle.echo.proofs.digest_at_once.digest.Reads as digest
+
+pub rounds-has-one-answer : (κs : _) (a : _) (r r′ : _) (s s′ : _) → rounds.Post κs a r s → rounds.Post κs a r′ s′ → (r ≡ r′) × (now (s .0) ≡ now (s′ .0))
+rounds-has-one-answer κs a r r′ s s′ p q = (p .0 ∙ sym (q .0), p .1 ∙ sym (q .1))
+
+pub rounds-back-has-one-answer : (κs : _) (a : _) (r r′ : _) (s s′ : _) → rounds_back.Post κs a r s → rounds_back.Post κs a r′ s′ → (r ≡ r′) × (now (s .0) ≡ now (s′ .0))
+rounds-back-has-one-answer κs a r r′ s s′ p q = (p .0 ∙ sym (q .0), p .1 ∙ sym (q .1))
+
+pub compress-has-one-answer : (κs : _) (a : _) (r r′ : _) (s s′ : _) → compress.Post κs a r s → compress.Post κs a r′ s′ → (r ≡ r′) × (now (s .0) ≡ now (s′ .0))
+compress-has-one-answer κs a r r′ s s′ p q = (p .0 ∙ sym (q .0), p .1 ∙ sym (q .1))
+
+pub opening-has-one-answer : (κs : _) (a : _) (r r′ : _) (s s′ : _) → opening.Post κs a r s → opening.Post κs a r′ s′ → r ≡ r′
+opening-has-one-answer κs a r r′ s s′ p q = p ∙ sym q
+
+pub is-session-has-one-answer : (κs : _) (a : _) (r r′ : _) (s s′ : _) → is_session.Post κs a r s → is_session.Post κs a r′ s′ → r ≡ r′
+is-session-has-one-answer κs a r r′ s s′ p q = p ∙ sym q
+
+pub add-has-one-answer : (κs : _) (a : _) (r r′ : _) (s s′ : _) → add.Post κs a r s → add.Post κs a r′ s′ → r ≡ r′
+add-has-one-answer κs a r r′ s s′ p q = p ∙ sym q
+
+pub read-has-one-answer : (κs : _) (a : _) (r r′ : _) (s s′ : _) → read.Post κs a r s → read.Post κs a r′ s′ → (r ≡ r′) × (now (s .1 .0) ≡ now (s′ .1 .0))
+read-has-one-answer κs a r r′ s s′ p q = (p .0 ∙ sym (q .0), p .1 ∙ sym (q .1))
+
+pub digest-has-one-answer : (κs : _) (a : _) (r r′ : _) (s s′ : _) → digest.Post κs a r s → digest.Post κs a r′ s′ → (r ≡ r′) × (now (s .1 .1 .1 .0) ≡ now (s′ .1 .1 .1 .0))
+digest-has-one-answer κs a r r′ s s′ p q = (p .0 ∙ sym (q .0), p .1 ∙ sym (q .1))

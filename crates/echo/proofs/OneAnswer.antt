@@ -20,8 +20,8 @@ rounds-back-has-one-answer κs a r r′ s s′ p q = (p .0 ∙ sym (q .0), p .1 
 pub compress-has-one-answer : (κs : _) (a : _) (r r′ : _) (s s′ : _) → compress.Post κs a r s → compress.Post κs a r′ s′ → (r ≡ r′) × (now (s .0) ≡ now (s′ .0))
 compress-has-one-answer κs a r r′ s s′ p q = (p .0 ∙ sym (q .0), p .1 ∙ sym (q .1))
 
-pub opening-has-one-answer : (κs : _) (a : _) (r r′ : _) (s s′ : _) → opening.Post κs a r s → opening.Post κs a r′ s′ → r ≡ r′
-opening-has-one-answer κs a r r′ s s′ p q = p ∙ sym q
+pub open-has-one-answer : (κs : _) (a : _) (r r′ : _) (s s′ : _) → opening.Post κs a r s → opening.Post κs a r′ s′ → r ≡ r′
+open-has-one-answer κs a r r′ s s′ p q = p ∙ sym q
 
 pub is-session-has-one-answer : (κs : _) (a : _) (r r′ : _) (s s′ : _) → is_session.Post κs a r s → is_session.Post κs a r′ s′ → r ≡ r′
 is-session-has-one-answer κs a r r′ s s′ p q = p ∙ sym q

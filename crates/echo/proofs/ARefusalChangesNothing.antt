@@ -1,0 +1,52 @@
+-- A refusal writes to no buffer and hands the session back as it came: wherever a routine answers a number other than 0, what it leaves is
+-- what was lent, and the session is the one given. A refused opening hands the blank session out, which is no session. Assumes nothing.
+use mathlib.Core.Path.{_≡_, refl}
+use mathlib.Core.Bool.{false}
+use mathlib.Core.List.{List}
+use Prim.Native.Nat.{ℕ, suc}
+use lib.ListN.{length}
+use Rattle.echo.specs.declared.session.Session.{Session}
+use Rattle.echo.specs.Routines.{compressLeaves, compressRefusal, roundsBackLeave, roundsLeave, roundsRefusal}
+use Rattle.echo.specs.Session.{addAnswer, addRefusal, admitted, blank, digestLeaves, digestRefusal, isSession, openAnswer, openRefusal, readAnswer, readLeaves, readRefusal}
+
+-- the refusal number is k + 1
+module _ (k : ℕ) where
+  module _ (square : List ℕ) (count counter : ℕ) (salt : List ℕ) (e : roundsRefusal (length square) count counter (length salt) ≡ suc k) where
+    pub refused-rounds-leave-the-square : roundsLeave square count counter salt ≡ square
+    unfolding roundsLeave
+    refused-rounds-leave-the-square = rw e refl
+
+    pub refused-rounds-back-leave-the-square : roundsBackLeave square count counter salt ≡ square
+    unfolding roundsBackLeave
+    refused-rounds-back-leave-the-square = rw e refl
+
+  pub a-refused-compression-leaves-the-chaining-value : (chaining block : List ℕ) (counter : ℕ) (salt : List ℕ)
+      → compressRefusal (length chaining) (length block) counter (length salt) ≡ suc k → compressLeaves chaining block counter salt ≡ chaining
+  unfolding compressLeaves
+  a-refused-compression-leaves-the-chaining-value chaining block counter salt e = rw e refl
+
+  pub a-refused-opening-is-blank : (h : ℕ) (salt : List ℕ) → openRefusal h (length salt) ≡ suc k → openAnswer h salt .session ≡ blank
+  unfolding openAnswer
+  a-refused-opening-is-blank h salt e = rw e refl
+
+  pub a-refused-piece-changes-nothing : (s : Session) (piece : List ℕ) → addRefusal s (length piece) ≡ suc k → addAnswer s piece .session ≡ s
+  unfolding addAnswer
+  a-refused-piece-changes-nothing s piece e = rw e refl
+
+  pub a-refused-reading-leaves-the-room : (s : Session) (room : List ℕ) → readRefusal s (length room) ≡ suc k → readLeaves s room ≡ room
+  unfolding readLeaves
+  a-refused-reading-leaves-the-room s room e = rw e refl
+
+  pub a-refused-digest-leaves-the-room : (h : ℕ) (salt message room : List ℕ) → digestRefusal h (length salt) (length message) (length room) ≡ suc k
+      → digestLeaves h salt message room ≡ room
+  unfolding digestLeaves
+  a-refused-digest-leaves-the-room h salt message room e = rw e refl
+
+pub the-blank-session-is-none : isSession blank ≡ false
+unfolding isSession admitted
+the-blank-session-is-none = refl
+
+-- refused or not
+pub reading-hands-the-session-back : (s : Session) (room : ℕ) → readAnswer s room .session ≡ s
+unfolding readAnswer
+reading-hands-the-session-back s room = refl

@@ -3,6 +3,7 @@ pub mod Numbers
 pub mod Placed
 pub mod Refusals
 pub mod Square
+pub mod Undone
 pub mod Words
 pub mod Columns
 pub mod Compression

@@ -1,21 +1,21 @@
 -- Nothing is lost before the fold. For each number n of rounds, 8 and 10 among them, each salt of sixteen bytes and each starting counter:
 -- the rounds send different squares of 256 bytes to different squares and reach every square; the way back undoes them, and they undo
--- it, exactly; row shift and word-column mix of two squares xored are their two results xored; and the new chaining value is the fold of
--- the starting square xored with the fold of the finished one. Assumes nothing.
-use mathlib.Core.Path.{_≡_, refl, sym, ap, subst, _∙_}
+-- it, exactly, as definitions and as routines; row shift and word-column mix of two squares xored are their two results xored; and the new
+-- chaining value is the fold of the starting square xored with the fold of the finished one. Assumes nothing.
+use mathlib.Core.Path.{_≡_, sym, ap, _∙_}
 use mathlib.Core.List.{List, _++_}
-use Prim.Native.Nat.{ℕ, zero, suc, _+_, _*_, _<_}
+use Prim.Native.Nat.{ℕ, _+_, _*_, _<_}
 use lib.ListN.{length}
 use Rattle.aes_round.specs.Bytes.{Bytes, xorBytes}
 use Rattle.aes_round.specs.Mixing.{forward}
 use Rattle.aes_round.proofs.Laws.Rounds.{mix-columns-xor, shift-xor}
 use Rattle.echo.specs.Compression.{bigFinal, compress, fold}
-use Rattle.echo.specs.Routines.{roundsBackLeave, roundsLeave, roundsRefusal}
+use Rattle.echo.specs.Routines.{roundsBackLeave, roundsLeave}
 use Rattle.echo.specs.Square.{bigMixColumns, bigShiftRows, keysFrom, rounds, roundsBack}
 use Rattle.echo.proofs.Laws.Compression.{fold-loaded}
 use Rattle.echo.proofs.Laws.Numbers.{key-bytes}
-use Rattle.echo.proofs.Laws.Refusals.{RoundsFit, done, rounds-fit}
-use Rattle.echo.proofs.Laws.Square.{Keys, rounds-are-squares, rounds-back-are-squares, rounds-back-undone, rounds-undone}
+use Rattle.echo.proofs.Laws.Square.{Keys, rounds-back-are-squares, rounds-back-undone, rounds-undone}
+use Rattle.echo.proofs.Laws.Undone.{undo-each-other}
 
 module _ (n start : ℕ) (salt : List ℕ) (L : Bytes 16 salt) where
   keys : Keys (keysFrom start)
@@ -38,54 +38,9 @@ module _ (n start : ℕ) (salt : List ℕ) (L : Bytes 16 salt) where
 
 -- the routines themselves, for every square and salt of bytes, count and counter: where nothing is refused each undoes the other, and a
 -- refusal changes nothing
-module _ (square : List ℕ) (count counter : ℕ) (salt : List ℕ) (S : Bytes (length square) square) (L : Bytes (length salt) salt) where
-  abbrev refusal : List ℕ → ℕ
-  refusal s = roundsRefusal (length s) count counter (length salt)
-
-  module _ (e : refusal square ≡ 0) where
-    fit : RoundsFit (length square) count counter (length salt)
-    fit = rounds-fit (length square) count counter (length salt) e
-
-    S256 : Bytes 256 square
-    S256 = subst (λ (n : ℕ). Bytes n square) (fit .square-fits) S
-
-    L16 : Bytes 16 salt
-    L16 = subst (λ (n : ℕ). Bytes n salt) (fit .salt-fits) L
-
-    keys-of : Keys (keysFrom counter)
-    keys-of number = key-bytes (counter + number)
-
-    -- a square is as long as the one given, and so it is not refused
-    as-long : (t : List ℕ) → Bytes 256 t → refusal t ≡ 0
-    as-long t T = ap (λ (n : ℕ). roundsRefusal n count counter (length salt)) (T .long ∙ sym (fit .square-fits)) ∙ e
-
-    forth-and-back : roundsBackLeave (roundsLeave square count counter salt) count counter salt ≡ square
-    unfolding roundsLeave roundsBackLeave
-    forth-and-back =
-        let t = rounds count (keysFrom counter) salt square in
-        let T = rounds-are-squares (keysFrom counter) salt keys-of L16 count square S256 in
-        ap (λ (u : List ℕ). roundsBackLeave u count counter salt) (done (refusal square) t square e)
-        ∙ done (refusal t) (roundsBack count (keysFrom counter) salt t) t (as-long t T)
-        ∙ rounds-undone (keysFrom counter) salt keys-of L16 count square S256
-
-    back-and-forth : roundsLeave (roundsBackLeave square count counter salt) count counter salt ≡ square
-    unfolding roundsLeave roundsBackLeave
-    back-and-forth =
-        let t = roundsBack count (keysFrom counter) salt square in
-        let T = rounds-back-are-squares (keysFrom counter) salt keys-of L16 count square S256 in
-        ap (λ (u : List ℕ). roundsLeave u count counter salt) (done (refusal square) t square e)
-        ∙ done (refusal t) (rounds count (keysFrom counter) salt t) t (as-long t T)
-        ∙ rounds-back-undone (keysFrom counter) salt keys-of L16 count square S256
-
-  pub the-routines-undo-each-other :
-      (roundsBackLeave (roundsLeave square count counter salt) count counter salt ≡ square) × (roundsLeave (roundsBackLeave square count counter salt) count counter salt ≡ square)
-  unfolding roundsLeave roundsBackLeave
-  the-routines-undo-each-other = by (refusal square) refl
-    where
-      by : (n : ℕ) → refusal square ≡ n
-          → (roundsBackLeave (roundsLeave square count counter salt) count counter salt ≡ square) × (roundsLeave (roundsBackLeave square count counter salt) count counter salt ≡ square)
-      by zero e = (forth-and-back e, back-and-forth e)
-      by (suc k) e = (rw (e, e) refl, rw (e, e) refl)
+pub the-routines-undo-each-other : (square : List ℕ) (count counter : ℕ) (salt : List ℕ) → Bytes (length square) square → Bytes (length salt) salt
+    → (roundsBackLeave (roundsLeave square count counter salt) count counter salt ≡ square) × (roundsLeave (roundsBackLeave square count counter salt) count counter salt ≡ square)
+the-routines-undo-each-other = undo-each-other
 
 pub row-shift-of-xor : (s t : List ℕ) → bigShiftRows (xorBytes 256 s t) ≡ xorBytes 256 (bigShiftRows s) (bigShiftRows t)
 unfolding bigShiftRows

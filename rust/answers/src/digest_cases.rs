@@ -7,9 +7,9 @@ mod refused;
 mod tests;
 
 use crate::file::File;
-use crate::generator::Generator;
 use plain::family;
 use record::Case;
+use seeded::Generator;
 
 /// The digest lengths that the paper names.
 const NAMED: [u16; 4] = [224, 256, 384, 512];

@@ -7,10 +7,10 @@ mod refused;
 mod tests;
 
 use crate::file::File;
-use crate::generator::Generator;
 use plain::refusal::COUNTER_LIMIT;
 use plain::{digest, family, padding};
 use record::{Case, Kind};
+use seeded::Generator;
 
 /// The program's input and the output it has to give.
 pub fn files() -> Vec<File> {

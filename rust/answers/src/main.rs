@@ -9,7 +9,6 @@
 mod digest_cases;
 mod echo_cases;
 mod file;
-mod generator;
 mod table_cases;
 mod table_programs;
 

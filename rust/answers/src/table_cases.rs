@@ -10,8 +10,8 @@ mod refused;
 mod tests;
 
 use crate::file::File;
-use crate::generator::Generator;
 use record::{Case, Task};
+use seeded::Generator;
 
 /// The program's input and the output it has to give.
 pub fn files() -> Vec<File> {

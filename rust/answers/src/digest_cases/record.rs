@@ -1,7 +1,7 @@
 //! One case of `digest_cases`: its record of 32 bytes and the line it has to give.
 
-use crate::generator::Generator;
 use plain::{checked, hex, refusal};
+use seeded::Generator;
 
 /// Bytes of a record.
 pub const RECORD: usize = 32;

@@ -2,7 +2,7 @@
 //! where the lower number has to win. Each at once and over a session.
 
 use super::record::Case;
-use crate::generator::Generator;
+use seeded::Generator;
 
 /// Digest lengths that are not admitted.
 const BITS: [u16; 9] = [0, 8, 120, 127, 129, 252, 513, 520, 65535];

@@ -1,7 +1,7 @@
 //! One case of `echo_cases`: its record of 513 bytes and the line it has to give.
 
-use crate::generator::Generator;
 use plain::{checked, hex};
+use seeded::Generator;
 
 /// Bytes of a record.
 pub const RECORD: usize = 513;

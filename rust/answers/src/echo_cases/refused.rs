@@ -2,7 +2,7 @@
 //! lowest number has to win.
 
 use super::record::{Case, Kind};
-use crate::generator::Generator;
+use seeded::Generator;
 
 const KINDS: [Kind; 3] = [Kind::Rounds, Kind::RoundsBack, Kind::Compress];
 

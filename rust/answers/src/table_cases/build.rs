@@ -1,7 +1,7 @@
 //! Tables to make cases from, with bodies from the generator.
 
-use crate::generator::Generator;
 use plain::table::body_length;
+use seeded::Generator;
 
 /// The kinds that records have.
 pub const KINDS: [u8; 5] = [1, 2, 3, 4, 5];
@@ -26,7 +26,7 @@ pub fn records(generator: &mut Generator, kinds: &[u8]) -> Vec<u8> {
 
 /// A kind from the generator.
 pub fn some_kind(generator: &mut Generator) -> u8 {
-    KINDS[generator.below(KINDS.len() as u64) as usize]
+    generator.pick(&KINDS)
 }
 
 /// A valid table of just this length. There is none of 1, 2 or 4 bytes, so a

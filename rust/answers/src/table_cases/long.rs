@@ -3,8 +3,8 @@
 use super::record::Case;
 use super::refused::handed_over;
 use super::{build, every_task};
-use crate::generator::Generator;
 use plain::refusal::TABLE_LIMIT;
+use seeded::Generator;
 
 /// At the front, around the longest table's end, and far past it.
 const PLACES: [u16; 5] = [0, 4096, 4097, 4098, 65535];

@@ -3,7 +3,7 @@
 
 use super::record::Case;
 use super::{build, every_task};
-use crate::generator::Generator;
+use seeded::Generator;
 
 /// How many tables of records.
 pub const TABLES: usize = 55;

@@ -1,9 +1,9 @@
 //! One case of `table_cases`: its record, a header of 24 bytes and the table, and
 //! the line it has to give.
 
-use crate::generator::Generator;
 use plain::table::{self, Record};
 use plain::{checked, hex};
+use seeded::Generator;
 
 /// Bytes of a record before its table.
 pub const HEADER: usize = 24;

@@ -3,7 +3,7 @@
 
 use super::record::{Case, Task};
 use super::{build, every_task};
-use crate::generator::Generator;
+use seeded::Generator;
 
 /// Lengths of a salt, of which only the last is right.
 const SALT_LENGTHS: [u8; 4] = [0, 1, 15, 16];

@@ -1,12 +1,14 @@
 //! Numbers and bytes that look random and are the same on every run and every
 //! machine: splitmix64.
 
+#![forbid(unsafe_code)]
+
 /// A generator at some point of its sequence.
 pub struct Generator(u64);
 
 impl Generator {
-    /// The generator of a seed. A program's cases take a seed of their own, so
-    /// that a case added to one program leaves the others' files alone.
+    /// The generator of a seed. Cases of one purpose take a seed of their own, so
+    /// that a case added there leaves all others as they are.
     pub fn new(seed: u64) -> Generator {
         Generator(seed)
     }
@@ -28,10 +30,27 @@ impl Generator {
     /// The next bytes.
     pub fn bytes<const N: usize>(&mut self) -> [u8; N] {
         let mut bytes = [0; N];
+        self.fill(&mut bytes);
+        bytes
+    }
+
+    /// The next bytes, as many as asked for.
+    pub fn vector(&mut self, length: usize) -> Vec<u8> {
+        let mut bytes = vec![0; length];
+        self.fill(&mut bytes);
+        bytes
+    }
+
+    /// One of some things.
+    pub fn pick<T: Copy>(&mut self, from: &[T]) -> T {
+        from[self.below(from.len() as u64) as usize]
+    }
+
+    /// Each number gives eight bytes, the last one as many as are wanted.
+    fn fill(&mut self, bytes: &mut [u8]) {
         for piece in bytes.chunks_mut(8) {
             piece.copy_from_slice(&self.number().to_le_bytes()[..piece.len()]);
         }
-        bytes
     }
 }
 
@@ -53,5 +72,13 @@ mod tests {
         let mut again = Generator::new(5);
         assert_eq!(bytes[..8], again.number().to_le_bytes());
         assert_eq!(bytes[8..], again.number().to_le_bytes()[..3]);
+        assert_eq!(Generator::new(5).vector(11), bytes);
+    }
+
+    #[test]
+    fn everything_is_picked_sooner_or_later() {
+        let mut generator = Generator::new(6);
+        let picked: Vec<u8> = (0..100).map(|_| generator.pick(&[3, 5, 8])).collect();
+        assert!([3, 5, 8].iter().all(|thing| picked.contains(thing)));
     }
 }

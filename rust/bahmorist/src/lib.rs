@@ -1,0 +1,215 @@
+//! ECHO 2.0 digests, the round mixing below them, and fingerprints of steering
+//! tables, by the proved library: a safe face of its C functions, which
+//! `include/bahmorist.h` describes.
+//!
+//! Every number and every length is checked by the library itself. A call that
+//! is refused writes nothing. Nothing is allocated and nothing is kept between
+//! calls.
+//!
+//! The library is linked from `target/native`, where `tools/library` puts it.
+
+#![deny(missing_docs)]
+
+mod face;
+mod refusal;
+
+pub use refusal::{Refusal, RefusedTable};
+
+/// Puts the digest of a message, `bits` / 8 bytes, at the front of `out`; bytes
+/// behind it stay. The salt is sixteen zeros where there is none. Refuses by 1,
+/// 2, 4 or 5.
+///
+/// The published digests of the empty message:
+///
+/// ```
+/// for (bits, published) in [
+///     (224, "17da087595166f733fff7cdb0bca6438f303d0e00c48b5e7a3075905"),
+///     (256, "4496cd09d425999aefa75189ee7fd3c97362aa9e4ca898328002d20a4b519788"),
+/// ] {
+///     let mut out = [0; 64];
+///     bahmorist::digest(bits, &[0; 16], b"", &mut out)?;
+///     let digest = &out[..bits as usize / 8];
+///     let hex: String = digest.iter().map(|byte| format!("{byte:02x}")).collect();
+///     assert_eq!(hex, published);
+/// }
+/// # Ok::<(), bahmorist::Refusal>(())
+/// ```
+///
+/// What is refused, and that the room stays as it is:
+///
+/// ```
+/// use bahmorist::Refusal;
+///
+/// let mut out = [7; 32];
+/// let refused = bahmorist::digest(512, &[0; 16], b"abc", &mut out);
+/// assert_eq!(refused, Err(Refusal::Room));
+/// assert_eq!(out, [7; 32]);
+/// ```
+pub fn digest(bits: u64, salt: &[u8], message: &[u8], out: &mut [u8]) -> Result<(), Refusal> {
+    // SAFETY: each pointer comes with its slice's length; see `face`.
+    answer(unsafe {
+        face::bahmorist_digest(
+            bits,
+            salt.as_ptr(),
+            salt.len(),
+            message.as_ptr(),
+            message.len(),
+            out.as_mut_ptr(),
+            out.len(),
+        )
+    })
+}
+
+/// Rewrites a square of 256 bytes by 8 or 10 of ECHO's rounds, whose inner
+/// counter starts at `counter`. Refuses by 2, 6 or 7.
+///
+/// ```
+/// use bahmorist::Refusal;
+///
+/// let (start, salt) = ([7; 256], [0; 16]);
+/// let mut square = start;
+/// bahmorist::rounds(&mut square, 8, 1536, &salt)?;
+/// assert_ne!(square, start);
+/// bahmorist::rounds_back(&mut square, 8, 1536, &salt)?;
+/// assert_eq!(square, start);
+///
+/// let refused = bahmorist::rounds(&mut square, 9, 1536, &salt);
+/// assert_eq!(refused, Err(Refusal::Shape));
+/// # Ok::<(), Refusal>(())
+/// ```
+pub fn rounds(square: &mut [u8], rounds: u64, counter: u64, salt: &[u8]) -> Result<(), Refusal> {
+    // SAFETY: each pointer comes with its slice's length; see `face`.
+    answer(unsafe {
+        face::bahmorist_rounds(
+            square.as_mut_ptr(),
+            square.len(),
+            rounds,
+            counter,
+            salt.as_ptr(),
+            salt.len(),
+        )
+    })
+}
+
+/// Undoes [`rounds`] with the same round count, counter and salt. Refuses by 2,
+/// 6 or 7.
+///
+/// ```
+/// let (end, salt) = ([0xa5; 256], [3; 16]);
+/// let mut square = end;
+/// bahmorist::rounds_back(&mut square, 10, 0, &salt)?;
+/// bahmorist::rounds(&mut square, 10, 0, &salt)?;
+/// assert_eq!(square, end);
+/// # Ok::<(), bahmorist::Refusal>(())
+/// ```
+pub fn rounds_back(
+    square: &mut [u8],
+    rounds: u64,
+    counter: u64,
+    salt: &[u8],
+) -> Result<(), Refusal> {
+    // SAFETY: each pointer comes with its slice's length; see `face`.
+    answer(unsafe {
+        face::bahmorist_rounds_back(
+            square.as_mut_ptr(),
+            square.len(),
+            rounds,
+            counter,
+            salt.as_ptr(),
+            salt.len(),
+        )
+    })
+}
+
+/// Rewrites a chaining value to the one after this block: 64 bytes and a block
+/// of 192 with 8 rounds, or 128 bytes and a block of 128 with 10. Refuses by 2, 6
+/// or 7.
+///
+/// The empty message is one block of padding, with the counter 0, and its 256-bit
+/// digest is the front of the chaining value behind it:
+///
+/// ```
+/// let mut chaining = [0; 64];
+/// for word in chaining.chunks_mut(16) {
+///     word[..2].copy_from_slice(&256u16.to_le_bytes());
+/// }
+/// let mut block = [0; 192];
+/// block[0] = 0x80;
+/// block[174..176].copy_from_slice(&256u16.to_le_bytes());
+/// bahmorist::compress(&mut chaining, &block, 0, &[0; 16])?;
+///
+/// let mut digest = [0; 32];
+/// bahmorist::digest(256, &[0; 16], b"", &mut digest)?;
+/// assert_eq!(chaining[..32], digest);
+/// # Ok::<(), bahmorist::Refusal>(())
+/// ```
+pub fn compress(
+    chaining: &mut [u8],
+    block: &[u8],
+    counter: u64,
+    salt: &[u8],
+) -> Result<(), Refusal> {
+    // SAFETY: each pointer comes with its slice's length; see `face`.
+    answer(unsafe {
+        face::bahmorist_compress(
+            chaining.as_mut_ptr(),
+            chaining.len(),
+            block.as_ptr(),
+            block.len(),
+            counter,
+            salt.as_ptr(),
+            salt.len(),
+        )
+    })
+}
+
+/// Puts the fingerprint of a steering table, 32 bytes, at the front of `out`;
+/// bytes behind it stay. It is the 256-bit digest of all bodies joined in order.
+/// Refuses by 2, 5, 8, 9 or 10.
+///
+/// A node address, then the join floors at 2.4 and at 5 GHz:
+///
+/// ```
+/// use bahmorist::{Refusal, RefusedTable};
+///
+/// let table = [1, 0xa2, 0, 0, 0, 0, 7, 2, 0, 0x3c, 3, 0, 0x41];
+/// let bodies = [0xa2, 0, 0, 0, 0, 7, 0, 0x3c, 0, 0x41];
+/// let salt = [9; 16];
+///
+/// let mut fingerprint = [0; 32];
+/// bahmorist::fingerprint(&salt, &table, &mut fingerprint)?;
+/// let mut digest = [0; 32];
+/// bahmorist::digest(256, &salt, &bodies, &mut digest).unwrap();
+/// assert_eq!(fingerprint, digest);
+///
+/// // Without its last byte, the record at place 10 is cut short.
+/// let refused = bahmorist::fingerprint(&salt, &table[..12], &mut fingerprint);
+/// let (refusal, place) = (Refusal::CutShort, 10);
+/// assert_eq!(refused, Err(RefusedTable { refusal, place }));
+/// # Ok::<(), RefusedTable>(())
+/// ```
+pub fn fingerprint(salt: &[u8], table: &[u8], out: &mut [u8]) -> Result<(), RefusedTable> {
+    let mut place = 0;
+    // SAFETY: each pointer comes with its slice's length, and the place is a
+    // variable of this function; see `face`.
+    answer(unsafe {
+        face::bahmorist_fingerprint(
+            salt.as_ptr(),
+            salt.len(),
+            table.as_ptr(),
+            table.len(),
+            out.as_mut_ptr(),
+            out.len(),
+            &mut place,
+        )
+    })
+    .map_err(|refusal| RefusedTable { refusal, place })
+}
+
+/// What a number says: 0 is done, and the library gives none above 11.
+fn answer(number: u8) -> Result<(), Refusal> {
+    match number {
+        0 => Ok(()),
+        number => Err(Refusal::from_number(number).expect("a number from 0 to 11")),
+    }
+}

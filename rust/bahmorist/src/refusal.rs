@@ -1,0 +1,153 @@
+//! Why a call was refused.
+
+use std::error::Error;
+use std::fmt::{self, Display, Formatter};
+
+/// Why a call was refused. Where several apply, the lowest number is given, but
+/// between 9 and 10 that of the record nearer the table's front.
+///
+/// ```
+/// use bahmorist::Refusal;
+///
+/// assert_eq!(Refusal::Salt.number(), 2);
+/// assert_eq!(Refusal::from_number(2), Some(Refusal::Salt));
+/// assert_eq!(Refusal::Salt.to_string(), "the salt is not 16 bytes");
+/// ```
+#[derive(Debug, Clone, Copy, PartialEq, Eq, Hash)]
+#[repr(u8)]
+pub enum Refusal {
+    /// The digest length is not a multiple of 8 from 128 to 512.
+    DigestLength = 1,
+    /// The salt is not 16 bytes.
+    Salt = 2,
+    /// The record is no session. Nothing here takes a session, so this is never
+    /// given here.
+    Session = 3,
+    /// The message is over 2^61 - 21 bytes.
+    Message = 4,
+    /// The output room is smaller than what goes there.
+    Room = 5,
+    /// Chaining and block sizes are neither 64 and 192 nor 128 and 128, the
+    /// square is not 256 bytes, or the round count is not 8 or 10.
+    Shape = 6,
+    /// The starting counter is above 2^64 - 161.
+    Counter = 7,
+    /// The table is over 4,096 bytes.
+    Table = 8,
+    /// A kind byte that no record has.
+    Kind = 9,
+    /// A record cut short by the table's end.
+    CutShort = 10,
+    /// The digest layer refused what the table layer had passed. No input leads
+    /// there.
+    DigestLayer = 11,
+}
+
+/// All of them, in the order of their numbers.
+const ALL: [Refusal; 11] = [
+    Refusal::DigestLength,
+    Refusal::Salt,
+    Refusal::Session,
+    Refusal::Message,
+    Refusal::Room,
+    Refusal::Shape,
+    Refusal::Counter,
+    Refusal::Table,
+    Refusal::Kind,
+    Refusal::CutShort,
+    Refusal::DigestLayer,
+];
+
+impl Refusal {
+    /// The number, from 1 to 11.
+    pub fn number(self) -> u8 {
+        self as u8
+    }
+
+    /// The refusal of a number; none for 0, which is no refusal, and above 11.
+    pub fn from_number(number: u8) -> Option<Refusal> {
+        ALL.into_iter().find(|refusal| refusal.number() == number)
+    }
+}
+
+impl Display for Refusal {
+    fn fmt(&self, to: &mut Formatter) -> fmt::Result {
+        to.write_str(match self {
+            Refusal::DigestLength => "the digest length is not a multiple of 8 from 128 to 512",
+            Refusal::Salt => "the salt is not 16 bytes",
+            Refusal::Session => "the record is no session",
+            Refusal::Message => "the message is over 2^61 - 21 bytes",
+            Refusal::Room => "the output room is too small",
+            Refusal::Shape => "sizes of no family, no square, or a round count other than 8 and 10",
+            Refusal::Counter => "the starting counter is above 2^64 - 161",
+            Refusal::Table => "the table is over 4096 bytes",
+            Refusal::Kind => "unknown kind byte",
+            Refusal::CutShort => "record cut short",
+            Refusal::DigestLayer => "the digest layer refused what the table layer had passed",
+        })
+    }
+}
+
+impl Error for Refusal {}
+
+/// Why a table was refused, and where.
+///
+/// ```
+/// use bahmorist::{Refusal, RefusedTable};
+///
+/// let refused = RefusedTable { refusal: Refusal::CutShort, place: 7 };
+/// assert_eq!(refused.to_string(), "record cut short, at place 7");
+/// ```
+#[derive(Debug, Clone, Copy, PartialEq, Eq, Hash)]
+pub struct RefusedTable {
+    /// Why.
+    pub refusal: Refusal,
+    /// The place of the record's kind byte, counted from the table's first byte,
+    /// with [`Refusal::Kind`] and [`Refusal::CutShort`]; else 0.
+    pub place: u64,
+}
+
+impl Display for RefusedTable {
+    fn fmt(&self, to: &mut Formatter) -> fmt::Result {
+        match self.refusal {
+            Refusal::Kind | Refusal::CutShort => {
+                write!(to, "{}, at place {}", self.refusal, self.place)
+            }
+            refusal => refusal.fmt(to),
+        }
+    }
+}
+
+impl Error for RefusedTable {}
+
+#[cfg(test)]
+mod tests {
+    use super::*;
+    use std::collections::HashSet;
+
+    #[test]
+    fn numbers_go_there_and_back() {
+        for number in 1..=11 {
+            let refusal = Refusal::from_number(number).unwrap();
+            assert_eq!(refusal.number(), number);
+        }
+        for number in [0, 12, 255] {
+            assert_eq!(Refusal::from_number(number), None);
+        }
+    }
+
+    #[test]
+    fn each_refusal_says_something_else() {
+        let texts: HashSet<String> = ALL.iter().map(Refusal::to_string).collect();
+        assert_eq!(texts.len(), ALL.len());
+    }
+
+    #[test]
+    fn a_place_is_told_only_where_there_is_one() {
+        for refusal in ALL {
+            let text = RefusedTable { refusal, place: 0 }.to_string();
+            let placed = matches!(refusal, Refusal::Kind | Refusal::CutShort);
+            assert_eq!(text.ends_with(", at place 0"), placed);
+        }
+    }
+}

@@ -1,93 +1,60 @@
-//! One AES round by the processor's own instruction: a third opinion, by an
-//! implementation that stands in no source text.
+//! ECHO 2.0 by the processor's own AES instruction: a third opinion, whose AES
+//! round stands in no source text, and the measure of what a machine can do.
 //!
 //! The instruction is used where the processor has it, which is asked at run
 //! time. Everywhere else the answers say that there is none.
 
-mod instruction;
+#[cfg(any(target_arch = "x86_64", target_arch = "aarch64"))]
+mod by_instruction;
+#[cfg(any(target_arch = "x86_64", target_arch = "aarch64"))]
+mod message;
+#[cfg(any(target_arch = "x86_64", target_arch = "aarch64"))]
+mod processor;
+#[cfg(any(target_arch = "x86_64", target_arch = "aarch64"))]
+mod square;
+#[cfg(test)]
+mod tests;
 
-use plain::aes::Word;
-use plain::square::{self, Square};
+#[cfg(not(any(target_arch = "x86_64", target_arch = "aarch64")))]
+mod by_instruction {
+    //! No such instruction is known here.
+
+    use crate::Word;
+
+    pub fn round(_: Word, _: Word) -> Option<Word> {
+        None
+    }
+
+    pub fn rounds(_: &mut [u8; 256], _: u64, _: u64, _: &Word) -> bool {
+        false
+    }
+
+    pub fn digest(_: u64, _: &Word, _: &[u8]) -> Option<Vec<u8>> {
+        None
+    }
+}
+
+/// Sixteen bytes: a word of the square, a key, a salt.
+pub type Word = [u8; 16];
 
 /// SubBytes, ShiftRows, MixColumns, AddRoundKey; none where the processor has
 /// no such instruction.
 pub fn round(word: Word, key: Word) -> Option<Word> {
-    instruction::round(word, key)
+    by_instruction::round(word, key)
 }
 
-/// ECHO's BIG.ROUND, `count` times, with every AES round done by the
-/// instruction; the moves between words are `plain`'s. Gives false and leaves
-/// the square alone where the processor has no such instruction.
-pub fn rounds(square: &mut Square, count: u64, counter: u64, salt: &Word) -> bool {
-    if round([0; 16], [0; 16]).is_none() {
-        return false;
-    }
-    for big_round in 0..count {
-        let mut counter = square::counter_of_round(counter, big_round);
-        for word in square::words(square) {
-            *word = round(*word, square::counter_key(counter))
-                .and_then(|first| round(first, *salt))
-                .expect("the instruction was there a moment ago");
-            counter = counter.wrapping_add(1);
-        }
-        square::shift_rows(square);
-        square::mix_columns(square);
-    }
-    true
+/// ECHO's BIG.ROUND, `count` times. Gives false and leaves the square alone
+/// where the processor has no such instruction.
+pub fn rounds(square: &mut [u8; 256], count: u64, counter: u64, salt: &Word) -> bool {
+    by_instruction::rounds(square, count, counter, salt)
 }
 
-#[cfg(test)]
-mod tests {
-    use super::*;
-
-    /// Bytes of a seeded splitmix64 generator.
-    struct Bytes(u64);
-
-    impl Bytes {
-        fn number(&mut self) -> u64 {
-            self.0 = self.0.wrapping_add(0x9e37_79b9_7f4a_7c15);
-            let z = (self.0 ^ (self.0 >> 30)).wrapping_mul(0xbf58_476d_1ce4_e5b9);
-            let z = (z ^ (z >> 27)).wrapping_mul(0x94d0_49bb_1331_11eb);
-            z ^ (z >> 31)
-        }
-
-        fn array<const N: usize>(&mut self) -> [u8; N] {
-            std::array::from_fn(|_| (self.number() >> 56) as u8)
-        }
-    }
-
-    #[test]
-    fn the_instruction_gives_the_plain_round() {
-        let mut bytes = Bytes(1);
-        for _ in 0..10_000 {
-            let (word, key) = (bytes.array(), bytes.array());
-            let Some(given) = round(word, key) else {
-                eprintln!("this processor has no AES instruction");
-                return;
-            };
-            assert_eq!(given, plain::aes::round(word, key));
-            assert_eq!(plain::aes::round_back(given, key), word);
-        }
-    }
-
-    #[test]
-    fn rounds_by_the_instruction_are_the_plain_rounds() {
-        let mut bytes = Bytes(2);
-        let counters = [0, 1, 240, 1 << 32, (1 << 32) - 80, u64::MAX - 160];
-        for (count, counter) in counters
-            .into_iter()
-            .flat_map(|counter| [0, 1, 8, 10].map(|count| (count, counter)))
-        {
-            let start: Square = bytes.array();
-            let salt = bytes.array();
-            let mut given = start;
-            if !rounds(&mut given, count, counter, &salt) {
-                assert_eq!(given, start);
-                continue;
-            }
-            let mut expected = start;
-            square::rounds(&mut expected, count, counter, &salt);
-            assert_eq!(given, expected);
-        }
-    }
+/// The digest of `bits` bits; none where the processor has no such instruction.
+/// Panics unless the digest length is a multiple of 8 from 128 to 512.
+pub fn digest(bits: u64, salt: &Word, message: &[u8]) -> Option<Vec<u8>> {
+    assert!(
+        (128..=512).contains(&bits) && bits.is_multiple_of(8),
+        "no digest has {bits} bits"
+    );
+    by_instruction::digest(bits, salt, message)
 }

@@ -1,0 +1,81 @@
+//! The digest of a message: its blocks, their counters and the padding.
+
+use crate::processor::{load, load_all, store, xor, Vector};
+use crate::square::rounds;
+use crate::Word;
+
+/// The digest of `bits` bits, by the sizes of its family: four chaining words
+/// and blocks of twelve, or eight and eight.
+#[inline]
+#[target_feature(enable = "aes")]
+pub fn digest(bits: u64, salt: Word, message: &[u8]) -> Vec<u8> {
+    if bits <= 256 {
+        iterate::<4>(bits, 8, load(salt), message)
+    } else {
+        iterate::<8>(bits, 10, load(salt), message)
+    }
+}
+
+/// All blocks of a message taken into a chaining value of C words.
+#[target_feature(enable = "aes")]
+fn iterate<const C: usize>(bits: u64, count: u64, salt: Vector, message: &[u8]) -> Vec<u8> {
+    let block_bytes = 16 * (16 - C);
+    let bit_count = 8 * message.len() as u64;
+    let mut chaining = [load(u128::from(bits).to_le_bytes()); C];
+    let mut blocks = message.chunks_exact(block_bytes);
+    let mut taken = 0;
+    for block in &mut blocks {
+        taken += 8 * block_bytes as u64;
+        compress(&mut chaining, block, count, taken, salt);
+    }
+    let (end, size) = last_blocks(bits, bit_count, blocks.remainder(), block_bytes);
+    // A block that holds nothing of the message has the counter 0.
+    let first = if blocks.remainder().is_empty() {
+        0
+    } else {
+        bit_count
+    };
+    for (block, counter) in end[..size].chunks_exact(block_bytes).zip([first, 0]) {
+        compress(&mut chaining, block, count, counter, salt);
+    }
+    let mut bytes: Vec<u8> = chaining.into_iter().flat_map(store).collect();
+    bytes.truncate(bits as usize / 8);
+    bytes
+}
+
+/// What stands behind the whole blocks, and its size: the bytes that are left,
+/// the byte 80, zeros up to 18 bytes before the end of this block or, where they
+/// don't fit, of one more, and the two lengths.
+fn last_blocks(bits: u64, bit_count: u64, left: &[u8], block_bytes: usize) -> ([u8; 384], usize) {
+    let mut end = [0; 384];
+    let fits = left.len() < block_bytes - 18;
+    let size = if fits { block_bytes } else { 2 * block_bytes };
+    end[..left.len()].copy_from_slice(left);
+    end[left.len()] = 0x80;
+    end[size - 18..size - 16].copy_from_slice(&(bits as u16).to_le_bytes());
+    end[size - 16..size - 8].copy_from_slice(&bit_count.to_le_bytes());
+    (end, size)
+}
+
+/// Takes a block into a chaining value: xors the block's words and those of the
+/// finished square into it, each at its place modulo C.
+#[inline]
+#[target_feature(enable = "aes")]
+fn compress<const C: usize>(
+    chaining: &mut [Vector; C],
+    block: &[u8],
+    count: u64,
+    counter: u64,
+    salt: Vector,
+) {
+    let mut square = [load([0; 16]); 16];
+    square[..C].copy_from_slice(chaining);
+    square[C..].copy_from_slice(&load_all::<16>(block)[..16 - C]);
+    let finished = rounds(square, count, counter, salt);
+    for place in C..16 {
+        chaining[place % C] = xor(chaining[place % C], square[place]);
+    }
+    for place in 0..16 {
+        chaining[place % C] = xor(chaining[place % C], finished[place]);
+    }
+}

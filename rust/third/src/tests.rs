@@ -1,0 +1,112 @@
+use super::*;
+use plain::hex;
+use seeded::Generator;
+
+/// Starting counters at both ends, and those whose words cross the lower half.
+const COUNTERS: [u64; 6] = [0, 1, 240, 1 << 32, (1 << 32) - 80, u64::MAX - 160];
+
+/// Published digests of the empty message under the all-zero salt.
+const PUBLISHED: [(u64, &str); 4] = [
+    (
+        224,
+        "17da087595166f733fff7cdb0bca6438f303d0e00c48b5e7a3075905",
+    ),
+    (
+        256,
+        "4496cd09d425999aefa75189ee7fd3c97362aa9e4ca898328002d20a4b519788",
+    ),
+    (
+        384,
+        "134040763f840559b84b7a1ae5d6d64fc3659821a789cc64\
+         a7f1444c09ee7f81a54d72beee8273bae5ef18ec43aa5f34",
+    ),
+    (
+        512,
+        "158f58cc79d300a9aa292515049275d051a28ab931726d0ec44bdd9faef4a702\
+         c36db9e7922fff077402236465833c5cc76af4efc352b4b44c7fa15aa0ef234e",
+    ),
+];
+
+/// Whether there is anything to hold against the others on this machine.
+fn present() -> bool {
+    let present = round([0; 16], [0; 16]).is_some();
+    if !present {
+        eprintln!("this processor has no AES instruction");
+    }
+    present
+}
+
+#[test]
+fn the_instruction_gives_the_plain_round() {
+    let mut generator = Generator::new(1);
+    for _ in 0..if present() { 10_000 } else { 0 } {
+        let (word, key) = (generator.bytes(), generator.bytes());
+        let given = round(word, key).unwrap();
+        assert_eq!(given, plain::aes::round(word, key));
+        assert_eq!(plain::aes::round_back(given, key), word);
+    }
+}
+
+#[test]
+fn rounds_by_the_instruction_are_the_plain_rounds() {
+    let mut generator = Generator::new(2);
+    for counter in COUNTERS {
+        for count in [0, 1, 8, 10] {
+            let start = generator.bytes();
+            let salt = generator.bytes();
+            let (mut given, mut expected) = (start, start);
+            if rounds(&mut given, count, counter, &salt) {
+                plain::square::rounds(&mut expected, count, counter, &salt);
+            }
+            assert_eq!(given, expected);
+        }
+    }
+}
+
+#[test]
+fn published_digests_of_the_empty_message() {
+    for (bits, published) in PUBLISHED {
+        if let Some(given) = digest(bits, &[0; 16], b"") {
+            assert_eq!(hex::encode(&given), published);
+        }
+    }
+}
+
+/// Every length of a message up to past the second block's end, each time for
+/// one more digest length.
+#[test]
+fn digests_of_every_message_length_are_the_plain_digests() {
+    let mut generator = Generator::new(3);
+    for length in 0..=400 {
+        for bits in [
+            128 + 8 * (length as u64 % 17),
+            264 + 8 * (length as u64 % 32),
+        ] {
+            agrees(bits, &mut generator, length);
+        }
+    }
+}
+
+#[test]
+fn digests_of_random_messages_are_the_plain_digests() {
+    let mut generator = Generator::new(4);
+    for bits in (128..=512).step_by(8) {
+        for _ in 0..100 {
+            let length = generator.below(601) as usize;
+            agrees(bits, &mut generator, length);
+        }
+    }
+}
+
+fn agrees(bits: u64, generator: &mut Generator, length: usize) {
+    let (salt, message) = (generator.bytes(), generator.vector(length));
+    if let Some(given) = digest(bits, &salt, &message) {
+        assert_eq!(given, plain::digest::digest(bits, &salt, &message));
+    }
+}
+
+#[test]
+#[should_panic(expected = "no digest has 260 bits")]
+fn other_digest_lengths_are_a_mistake_of_the_caller() {
+    digest(260, &[0; 16], b"");
+}

@@ -1,0 +1,166 @@
+//! One call of a routine on given inputs, and what came of it.
+
+use crate::guarded::Guarded;
+use crate::implementation::Implementation;
+use plain::hex;
+use seeded::Generator;
+use std::fmt::{self, Display, Formatter};
+
+/// A routine and the numbers it takes.
+#[derive(Debug, Clone, Copy, PartialEq, Eq)]
+pub enum Routine {
+    /// A digest at once.
+    Digest { bits: u64 },
+    /// Rounds forward.
+    Rounds { count: u64, counter: u64 },
+    /// Rounds backward.
+    RoundsBack { count: u64, counter: u64 },
+    /// A block taken into a chaining value.
+    Compress { counter: u64 },
+    /// The fingerprint of a table.
+    Fingerprint,
+}
+
+/// A routine and the bytes it is given.
+#[derive(Debug, Clone)]
+pub struct Case {
+    pub routine: Routine,
+    pub salt: Vec<u8>,
+    /// What is read besides the salt: message, block or table; rounds have none.
+    pub input: Vec<u8>,
+    /// What is lent to be written: output room, square or chaining value.
+    pub lent: Vec<u8>,
+}
+
+/// What came of a call.
+#[derive(Debug, Clone, PartialEq, Eq)]
+pub struct Outcome {
+    /// The refusal number, or 0.
+    pub number: u8,
+    /// The place, 0 where there is none.
+    pub place: u64,
+    /// All that was lent, afterwards.
+    pub lent: Vec<u8>,
+}
+
+impl Case {
+    /// What an implementation makes of the case.
+    pub fn outcome(&self, by: &Implementation) -> Outcome {
+        let mut lent = self.lent.clone();
+        let (number, place) = by.call(self.routine, &self.salt, &self.input, &mut lent);
+        Outcome {
+            number,
+            place,
+            lent,
+        }
+    }
+
+    /// The same with everything lent from the middle of larger buffers. Says what
+    /// was changed that may not be.
+    pub fn guarded_outcome(
+        &self,
+        by: &Implementation,
+        generator: &mut Generator,
+    ) -> Result<Outcome, String> {
+        let salt = Guarded::new(&self.salt, generator);
+        let input = Guarded::new(&self.input, generator);
+        let mut lent = Guarded::new(&self.lent, generator);
+        let (number, place) = by.call(self.routine, salt.bytes(), input.bytes(), lent.bytes_mut());
+        if !salt.unchanged() {
+            return Err("the salt or a byte beside it was changed".into());
+        }
+        if !input.unchanged() {
+            return Err("an input or a byte beside it was changed".into());
+        }
+        if !lent.unchanged_outside() {
+            return Err("a byte beside the lent ones was changed".into());
+        }
+        if number != 0 && !lent.unchanged() {
+            return Err(format!("refused by {number}, but a lent byte was changed"));
+        }
+        Ok(Outcome {
+            number,
+            place,
+            lent: lent.bytes().to_vec(),
+        })
+    }
+
+    /// The inputs that are called square, message and so on for this routine.
+    fn names(&self) -> (&'static str, &'static str, &'static str) {
+        match self.routine {
+            Routine::Digest { .. } => ("digest", "message", "room"),
+            Routine::Rounds { .. } => ("rounds", "", "square"),
+            Routine::RoundsBack { .. } => ("rounds backward", "", "square"),
+            Routine::Compress { .. } => ("compression", "block", "chaining value"),
+            Routine::Fingerprint => ("fingerprint", "table", "room"),
+        }
+    }
+
+    /// Whether the lent bytes are an input as well.
+    fn reads_lent(&self) -> bool {
+        !matches!(self.routine, Routine::Digest { .. } | Routine::Fingerprint)
+    }
+}
+
+impl Display for Case {
+    fn fmt(&self, to: &mut Formatter) -> fmt::Result {
+        let (name, input, lent) = self.names();
+        write!(to, "{name}, ")?;
+        match self.routine {
+            Routine::Digest { bits } => write!(to, "{bits} bits, ")?,
+            Routine::Rounds { count, counter } | Routine::RoundsBack { count, counter } => {
+                write!(to, "{count} of them, counter {counter}, ")?
+            }
+            Routine::Compress { counter } => write!(to, "counter {counter}, ")?,
+            Routine::Fingerprint => {}
+        }
+        write!(to, "salt {}, ", shown(&self.salt))?;
+        if !input.is_empty() {
+            write!(to, "{input} {}, ", shown(&self.input))?;
+        }
+        if self.reads_lent() {
+            write!(to, "{lent} {}", shown(&self.lent))
+        } else {
+            write!(to, "{lent} of {} bytes", self.lent.len())
+        }
+    }
+}
+
+impl Outcome {
+    /// What is wrong with this outcome where another is right.
+    pub fn difference(&self, right: &Outcome) -> Option<String> {
+        if (self.number, self.place) != (right.number, right.place) {
+            let (given, right) = (self.answer(), right.answer());
+            return Some(format!("{given}, where {right} is right"));
+        }
+        let pairs = self.lent.iter().zip(&right.lent);
+        let first = pairs.enumerate().find(|(_, (given, right))| given != right);
+        first.map(|(place, (given, right))| {
+            format!("lent byte {place} became {given:02x}, where {right:02x} is right")
+        })
+    }
+
+    fn answer(&self) -> String {
+        match self.number {
+            0 => "done".into(),
+            number => format!("refused {number} at {}", self.place),
+        }
+    }
+}
+
+/// Bytes in hex, or where they are many, how many and those at both ends.
+pub fn shown(bytes: &[u8]) -> String {
+    let length = bytes.len();
+    match length {
+        0 => "empty".into(),
+        1..=64 => hex::encode(bytes),
+        _ => format!(
+            "of {length} bytes {}..{}",
+            hex::encode(&bytes[..16]),
+            hex::encode(&bytes[length - 16..])
+        ),
+    }
+}
+
+#[cfg(test)]
+mod tests;

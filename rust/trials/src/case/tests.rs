@@ -1,0 +1,72 @@
+use super::*;
+use crate::implementation::LIBRARY;
+
+fn case() -> Case {
+    Case {
+        routine: Routine::Digest { bits: 128 },
+        salt: vec![0x5a; 16],
+        input: b"abc".to_vec(),
+        lent: vec![0xee; 20],
+    }
+}
+
+fn guarded(by: &Implementation) -> Result<Outcome, String> {
+    case().guarded_outcome(by, &mut Generator::new(1))
+}
+
+#[test]
+fn a_case_shows_its_inputs() {
+    let salt = "5a".repeat(16);
+    let shown = format!("digest, 128 bits, salt {salt}, message 616263, room of 20 bytes");
+    assert_eq!(case().to_string(), shown);
+    let mut case = case();
+    case.routine = Routine::Compress { counter: 7 };
+    case.input = (0..=255).collect();
+    case.lent.clear();
+    let ends = "000102030405060708090a0b0c0d0e0f..f0f1f2f3f4f5f6f7f8f9fafbfcfdfeff";
+    let shown = format!(
+        "compression, counter 7, salt {salt}, block of 256 bytes {ends}, chaining value empty"
+    );
+    assert_eq!(case.to_string(), shown);
+}
+
+#[test]
+fn guards_make_no_difference() {
+    assert_eq!(guarded(&LIBRARY), Ok(case().outcome(&LIBRARY)));
+}
+
+#[test]
+fn a_refusal_that_writes_is_seen() {
+    let wrong = Implementation {
+        digest: |_, _, _, out| {
+            out[19] ^= 1;
+            5
+        },
+        ..LIBRARY
+    };
+    let seen = "refused by 5, but a lent byte was changed";
+    assert_eq!(guarded(&wrong), Err(seen.into()));
+}
+
+#[test]
+fn every_part_of_an_outcome_counts() {
+    let right = case().outcome(&LIBRARY);
+    assert_eq!(right.difference(&right), None);
+    let number = Outcome {
+        number: 9,
+        place: 3,
+        ..right.clone()
+    };
+    let seen = "refused 9 at 3, where done is right";
+    assert_eq!(number.difference(&right), Some(seen.into()));
+    let place = Outcome {
+        place: 4,
+        ..number.clone()
+    };
+    let seen = "refused 9 at 4, where refused 9 at 3 is right";
+    assert_eq!(place.difference(&number), Some(seen.into()));
+    let mut lent = right.clone();
+    lent.lent[19] = 0xef;
+    let seen = "lent byte 19 became ef, where ee is right";
+    assert_eq!(lent.difference(&right), Some(seen.into()));
+}

@@ -1,0 +1,82 @@
+//! Inputs drawn from a generator, and those at the bounds.
+
+use crate::case::{Case, Routine};
+use crate::expected::HIGHEST_COUNTER;
+use seeded::Generator;
+
+/// Starting counters at the bounds of what is admitted, and those from which the
+/// 128 or 160 words of a run go over from one byte, half or sign to the next.
+pub const COUNTERS: [u64; 18] = [
+    0,
+    1,
+    0xff,
+    0x100,
+    0xffff,
+    1536,
+    (1 << 32) - 161,
+    (1 << 32) - 160,
+    (1 << 32) - 80,
+    (1 << 32) - 1,
+    1 << 32,
+    (1 << 48) - 80,
+    (1 << 63) - 160,
+    (1 << 63) - 80,
+    (1 << 63) - 1,
+    1 << 63,
+    HIGHEST_COUNTER - 1,
+    HIGHEST_COUNTER,
+];
+
+/// Every admitted digest length.
+pub fn digest_lengths() -> impl Iterator<Item = u64> {
+    (128..=512).step_by(8)
+}
+
+/// A salt, which is all zero one time in eight.
+pub fn salt(generator: &mut Generator) -> Vec<u8> {
+    match generator.below(8) {
+        0 => vec![0; 16],
+        _ => generator.vector(16),
+    }
+}
+
+/// An admitted starting counter of any size.
+pub fn counter(generator: &mut Generator) -> u64 {
+    let shift = generator.below(64);
+    (generator.number() >> shift).min(HIGHEST_COUNTER)
+}
+
+/// A digest into a room that is filled, and just large enough one time in two.
+pub fn digest(generator: &mut Generator, bits: u64, length: usize) -> Case {
+    let spare = generator.below(2) * generator.below(40);
+    Case {
+        routine: Routine::Digest { bits },
+        salt: salt(generator),
+        input: generator.vector(length),
+        lent: generator.vector((bits / 8 + spare) as usize),
+    }
+}
+
+/// A routine on a square.
+pub fn on_square(generator: &mut Generator, routine: Routine) -> Case {
+    let byte = generator.pick(&[0x00, 0xff]);
+    Case {
+        routine,
+        salt: salt(generator),
+        input: vec![],
+        lent: match generator.below(32) {
+            0 => vec![byte; 256],
+            _ => generator.vector(256),
+        },
+    }
+}
+
+/// A compression with sizes of a family: four chaining words or eight.
+pub fn compression(generator: &mut Generator, words: usize, counter: u64) -> Case {
+    Case {
+        routine: Routine::Compress { counter },
+        salt: salt(generator),
+        input: generator.vector(256 - 16 * words),
+        lent: generator.vector(16 * words),
+    }
+}

@@ -1,0 +1,71 @@
+//! Which refusal a case has to be given, by the table of refusal numbers alone:
+//! each number with its condition, the lowest that applies, and between 9 and 10
+//! that of the record nearer the front.
+//!
+//! Three numbers never come up here. 3 is about sessions and 11 about layers at
+//! odds, and neither has a way in through the C face. 4 would need a message
+//! that no memory holds.
+
+use crate::case::{Case, Routine};
+
+/// The highest starting counter: 2^64 - 161.
+pub const HIGHEST_COUNTER: u64 = 0u64.wrapping_sub(161);
+
+/// The number and the place that have to be given; 0 and 0 for none.
+pub fn answer(case: &Case) -> (u8, u64) {
+    refusals(case).first().copied().unwrap_or((0, 0))
+}
+
+/// Every refusal that applies and its place, the lowest number first.
+pub fn refusals(case: &Case) -> Vec<(u8, u64)> {
+    let (salt, input, lent) = (case.salt.len(), case.input.len(), case.lent.len());
+    let bad_salt = (2, salt != 16);
+    match case.routine {
+        Routine::Digest { bits } => {
+            let admitted = (128..=512).contains(&bits) && bits % 8 == 0;
+            holding([(1, !admitted), bad_salt, (5, (lent as u64) < bits / 8)])
+        }
+        Routine::Rounds { count, counter } | Routine::RoundsBack { count, counter } => {
+            let shape = lent == 256 && (count == 8 || count == 10);
+            holding([bad_salt, (6, !shape), (7, counter > HIGHEST_COUNTER)])
+        }
+        Routine::Compress { counter } => {
+            let shape = (lent, input) == (64, 192) || (lent, input) == (128, 128);
+            holding([bad_salt, (6, !shape), (7, counter > HIGHEST_COUNTER)])
+        }
+        Routine::Fingerprint => {
+            let mut refusals = holding([bad_salt, (5, lent < 32), (8, input > 4096)]);
+            refusals.extend(bad_record(&case.input));
+            refusals
+        }
+    }
+}
+
+/// The numbers whose conditions hold, at no place.
+fn holding<const N: usize>(conditions: [(u8, bool); N]) -> Vec<(u8, u64)> {
+    let holding = conditions.into_iter().filter(|(_, holds)| *holds);
+    holding.map(|(number, _)| (number, 0)).collect()
+}
+
+/// 9 or 10 and the place, by the record nearest the front that is either of an
+/// unknown kind or cut short.
+fn bad_record(table: &[u8]) -> Option<(u8, u64)> {
+    let mut place = 0;
+    while place < table.len() {
+        let body = match table[place] {
+            1 => 6,
+            2 | 3 => 2,
+            4 => 4,
+            5 => 32,
+            _ => return Some((9, place as u64)),
+        };
+        if table.len() - place - 1 < body {
+            return Some((10, place as u64));
+        }
+        place += 1 + body;
+    }
+    None
+}
+
+#[cfg(test)]
+mod tests;

@@ -1,0 +1,94 @@
+use super::*;
+
+fn case(routine: Routine, salt: usize, input: &[u8], lent: usize) -> Case {
+    Case {
+        routine,
+        salt: vec![0; salt],
+        input: input.to_vec(),
+        lent: vec![0; lent],
+    }
+}
+
+#[test]
+fn digests() {
+    for (bits, salt, room, number) in [
+        (128, 16, 16, 0),
+        (512, 16, 64, 0),
+        (512, 16, 63, 5),
+        (120, 16, 64, 1),
+        (130, 15, 0, 1),
+        (520, 16, 64, 1),
+        (u64::MAX, 17, 0, 1),
+        (256, 15, 31, 2),
+        (256, 17, 32, 2),
+    ] {
+        let case = case(Routine::Digest { bits }, salt, b"abc", room);
+        assert_eq!(answer(&case), (number, 0), "{case}");
+    }
+}
+
+#[test]
+fn rounds_both_ways() {
+    for (square, count, counter, salt, number) in [
+        (256, 8, 0, 16, 0),
+        (256, 10, u64::MAX - 160, 16, 0),
+        (256, 10, u64::MAX - 159, 16, 7),
+        (255, 10, u64::MAX, 16, 6),
+        (256, 9, 0, 16, 6),
+        (0, 0, u64::MAX, 0, 2),
+    ] {
+        for routine in [
+            Routine::Rounds { count, counter },
+            Routine::RoundsBack { count, counter },
+        ] {
+            let case = case(routine, salt, b"", square);
+            assert_eq!(answer(&case), (number, 0), "{case}");
+        }
+    }
+}
+
+#[test]
+fn compressions() {
+    for (chaining, block, counter, salt, number) in [
+        (64, 192, u64::MAX - 160, 16, 0),
+        (128, 128, 0, 16, 0),
+        (192, 64, 0, 16, 6),
+        (128, 192, u64::MAX, 16, 6),
+        (128, 128, u64::MAX, 16, 7),
+        (128, 128, u64::MAX, 15, 2),
+    ] {
+        let case = case(
+            Routine::Compress { counter },
+            salt,
+            &vec![0; block],
+            chaining,
+        );
+        assert_eq!(answer(&case), (number, 0), "{case}");
+    }
+}
+
+#[test]
+fn fingerprints() {
+    let long = [2; 4097];
+    for (table, salt, room, given) in [
+        (&b""[..], 16, 32, (0, 0)),
+        (&[2, 0, 0x3c, 3, 0, 0x41], 16, 32, (0, 0)),
+        (&[2, 0, 0x3c, 3, 0], 16, 32, (10, 3)),
+        (&[2, 0, 0x3c, 6, 3, 0], 16, 32, (9, 3)),
+        (&[3, 0, 0, 2, 6], 16, 32, (10, 3)),
+        (&[0], 16, 31, (5, 0)),
+        (&[0], 15, 31, (2, 0)),
+        (&long, 16, 32, (8, 0)),
+        (&long[..4096], 16, 32, (10, 4095)),
+    ] {
+        let case = case(Routine::Fingerprint, salt, table, room);
+        assert_eq!(answer(&case), given, "{case}");
+    }
+}
+
+#[test]
+fn all_that_apply_are_told() {
+    let long = [[0].repeat(4097), vec![1]].concat();
+    let case = case(Routine::Fingerprint, 0, &long, 0);
+    assert_eq!(refusals(&case), [(2, 0), (5, 0), (8, 0), (9, 0)]);
+}

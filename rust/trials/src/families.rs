@@ -1,0 +1,31 @@
+//! All families, in the order in which they are tried.
+
+pub mod block_edges;
+pub mod compressions;
+pub mod every_length;
+pub mod null_pointers;
+pub mod program_pieces;
+pub mod program_tables;
+pub mod random_messages;
+pub mod refusals;
+pub mod rounds_backward;
+pub mod rounds_forward;
+pub mod tables;
+pub mod there_and_back;
+
+use crate::family::Family;
+
+pub const ALL: [Family; 12] = [
+    block_edges::FAMILY,
+    every_length::FAMILY,
+    random_messages::FAMILY,
+    rounds_forward::FAMILY,
+    rounds_backward::FAMILY,
+    there_and_back::FAMILY,
+    compressions::FAMILY,
+    refusals::FAMILY,
+    null_pointers::FAMILY,
+    tables::FAMILY,
+    program_tables::FAMILY,
+    program_pieces::FAMILY,
+];

@@ -1,0 +1,170 @@
+//! The C functions themselves, with NULL wherever a length is 0: the header
+//! allows any pointer there. Slices have no such pointer, so that the functions
+//! are declared here once more, as a reader of the header would declare them.
+
+#![allow(unsafe_code)]
+
+use crate::case::{Case, Routine};
+use crate::family::{Family, Run};
+use crate::implementation::Implementation;
+use std::ptr;
+
+pub const FAMILY: Family = Family {
+    name: "NULL for what is empty, in every combination",
+    run,
+};
+
+extern "C" {
+    fn bahmorist_digest(
+        bits: u64,
+        salt: *const u8,
+        salt_len: usize,
+        message: *const u8,
+        message_len: usize,
+        out: *mut u8,
+        out_len: usize,
+    ) -> u8;
+    fn bahmorist_rounds(
+        square: *mut u8,
+        square_len: usize,
+        rounds: u64,
+        counter: u64,
+        salt: *const u8,
+        salt_len: usize,
+    ) -> u8;
+    fn bahmorist_rounds_back(
+        square: *mut u8,
+        square_len: usize,
+        rounds: u64,
+        counter: u64,
+        salt: *const u8,
+        salt_len: usize,
+    ) -> u8;
+    fn bahmorist_compress(
+        chaining: *mut u8,
+        chaining_len: usize,
+        block: *const u8,
+        block_len: usize,
+        counter: u64,
+        salt: *const u8,
+        salt_len: usize,
+    ) -> u8;
+    fn bahmorist_fingerprint(
+        salt: *const u8,
+        salt_len: usize,
+        table: *const u8,
+        table_len: usize,
+        out: *mut u8,
+        out_len: usize,
+        place: *mut u64,
+    ) -> u8;
+}
+
+// SAFETY, for all five: the pointer of a slice and its length, or NULL and 0; what
+// is written comes from a `&mut`.
+const WITH_NULL: Implementation = Implementation {
+    digest: |bits, salt, message, out| {
+        let (salt, salt_len) = read(salt);
+        let (message, message_len) = read(message);
+        let (out, out_len) = written(out);
+        unsafe { bahmorist_digest(bits, salt, salt_len, message, message_len, out, out_len) }
+    },
+    rounds: |square, count, counter, salt| {
+        let (square, square_len) = written(square);
+        let (salt, salt_len) = read(salt);
+        unsafe { bahmorist_rounds(square, square_len, count, counter, salt, salt_len) }
+    },
+    rounds_back: |square, count, counter, salt| {
+        let (square, square_len) = written(square);
+        let (salt, salt_len) = read(salt);
+        unsafe { bahmorist_rounds_back(square, square_len, count, counter, salt, salt_len) }
+    },
+    compress: |chaining, block, counter, salt| {
+        let (chaining, chaining_len) = written(chaining);
+        let (block, block_len) = read(block);
+        let (salt, salt_len) = read(salt);
+        unsafe {
+            bahmorist_compress(
+                chaining,
+                chaining_len,
+                block,
+                block_len,
+                counter,
+                salt,
+                salt_len,
+            )
+        }
+    },
+    fingerprint: |salt, table, out| {
+        let (salt, salt_len) = read(salt);
+        let (table, table_len) = read(table);
+        let (out, out_len) = written(out);
+        // No place is so high: it has to be written on every call.
+        let mut place = u64::MAX;
+        let number = unsafe {
+            bahmorist_fingerprint(salt, salt_len, table, table_len, out, out_len, &mut place)
+        };
+        (number, place)
+    },
+};
+
+/// Pointer and length of bytes to be read; NULL where there are none.
+fn read(bytes: &[u8]) -> (*const u8, usize) {
+    match bytes {
+        [] => (ptr::null(), 0),
+        _ => (bytes.as_ptr(), bytes.len()),
+    }
+}
+
+/// The same of bytes to be written.
+fn written(bytes: &mut [u8]) -> (*mut u8, usize) {
+    match bytes {
+        [] => (ptr::null_mut(), 0),
+        _ => (bytes.as_mut_ptr(), bytes.len()),
+    }
+}
+
+fn run(run: &mut Run) -> Result<(), String> {
+    run.subject = WITH_NULL;
+    for (routine, input, lent) in routines() {
+        for empty in 0..8 {
+            let length = |bit: usize, length: usize| if empty >> bit & 1 == 1 { 0 } else { length };
+            let case = Case {
+                routine,
+                salt: run.generator.vector(length(0, 16)),
+                input: zeros_after_twos(length(1, input)),
+                lent: run.generator.vector(length(2, lent)),
+            };
+            run.check(&case)?;
+        }
+    }
+    Ok(())
+}
+
+/// Routines, with the lengths of the input and of what is lent that they would
+/// not refuse. Some are refused for a number all the same.
+fn routines() -> [(Routine, usize, usize); 12] {
+    let counter = 1536;
+    [
+        (Routine::Digest { bits: 128 }, 5, 16),
+        (Routine::Digest { bits: 256 }, 192, 32),
+        (Routine::Digest { bits: 512 }, 200, 64),
+        (Routine::Digest { bits: 0 }, 5, 64),
+        (Routine::Rounds { count: 8, counter }, 0, 256),
+        (Routine::Rounds { count: 0, counter }, 0, 256),
+        (Routine::RoundsBack { count: 10, counter }, 0, 256),
+        (Routine::Compress { counter }, 192, 64),
+        (Routine::Compress { counter }, 128, 128),
+        (Routine::Compress { counter: u64::MAX }, 128, 128),
+        (Routine::Fingerprint, 6, 32),
+        (Routine::Fingerprint, 7, 40),
+    ]
+}
+
+/// Bytes whose first three are a record, and the next three; a fourth one behind
+/// them is cut short.
+fn zeros_after_twos(length: usize) -> Vec<u8> {
+    (0..length)
+        .map(|place| if place % 3 == 0 { 2 } else { 0 })
+        .collect()
+}

@@ -1,0 +1,38 @@
+//! Tables through the two programs.
+
+use crate::family::{Family, Run};
+use crate::program::{check_all, Job, FINGERPRINT, LIST};
+use crate::table;
+use seeded::Generator;
+
+pub const FAMILY: Family = Family {
+    name: "tables through both programs",
+    run,
+};
+
+const USUAL: usize = 150;
+
+fn run(run: &mut Run) -> Result<(), String> {
+    let mut jobs = Vec::new();
+    for _ in 0..run.cases(USUAL) {
+        let table = table::some(&mut run.generator);
+        jobs.push(Job::at_once(
+            FINGERPRINT,
+            salted(&mut run.generator, &table),
+        ));
+        jobs.push(Job::at_once(LIST, table));
+    }
+    check_all(&jobs)?;
+    run.count(jobs.len());
+    Ok(())
+}
+
+/// Sixteen salt bytes and then a table; one time in sixteen too little for the
+/// salt.
+pub fn salted(generator: &mut Generator, table: &[u8]) -> Vec<u8> {
+    let mut input = [&generator.vector(16), table].concat();
+    if generator.below(16) == 0 {
+        input.truncate(generator.below(17) as usize);
+    }
+    input
+}

@@ -1,0 +1,106 @@
+//! Every combination of inputs at both sides of their bounds, so that each set
+//! of refusals that can meet does meet.
+
+mod inputs;
+#[cfg(test)]
+mod tests;
+
+use crate::case::{Case, Routine};
+use crate::family::{Family, Run};
+use seeded::Generator;
+
+pub const FAMILY: Family = Family {
+    name: "refusals in every combination",
+    run,
+};
+
+fn run(run: &mut Run) -> Result<(), String> {
+    let mut cases = digests(&mut run.generator);
+    cases.extend(on_squares(&mut run.generator));
+    cases.extend(compressions(&mut run.generator));
+    cases.extend(fingerprints(&mut run.generator));
+    cases.iter().try_for_each(|case| run.check(case))
+}
+
+/// Numbers 1, 2 and 5.
+fn digests(generator: &mut Generator) -> Vec<Case> {
+    let mut cases = Vec::new();
+    for bits in inputs::BITS {
+        for salt in inputs::SALTS {
+            for room in inputs::rooms(bits) {
+                for message in [0, 3, 200] {
+                    let routine = Routine::Digest { bits };
+                    cases.push(filled(generator, routine, salt, message, room));
+                }
+            }
+        }
+    }
+    cases
+}
+
+/// Numbers 2, 6 and 7, forward and backward.
+fn on_squares(generator: &mut Generator) -> Vec<Case> {
+    let mut cases = Vec::new();
+    for salt in inputs::SALTS {
+        for square in inputs::SQUARES {
+            for count in inputs::COUNTS {
+                for counter in inputs::COUNTERS {
+                    for routine in [
+                        Routine::Rounds { count, counter },
+                        Routine::RoundsBack { count, counter },
+                    ] {
+                        cases.push(filled(generator, routine, salt, 0, square));
+                    }
+                }
+            }
+        }
+    }
+    cases
+}
+
+/// Numbers 2, 6 and 7.
+fn compressions(generator: &mut Generator) -> Vec<Case> {
+    let mut cases = Vec::new();
+    for salt in inputs::SALTS {
+        for (chaining, block) in inputs::SIZES {
+            for counter in inputs::COUNTERS {
+                let routine = Routine::Compress { counter };
+                cases.push(filled(generator, routine, salt, block, chaining));
+            }
+        }
+    }
+    cases
+}
+
+/// Numbers 2, 5 and 8, each with 9, with 10 and with neither.
+fn fingerprints(generator: &mut Generator) -> Vec<Case> {
+    let mut cases = Vec::new();
+    for table in inputs::tables(generator) {
+        for salt in inputs::SALTS {
+            for room in inputs::FINGERPRINT_ROOMS {
+                let case = filled(generator, Routine::Fingerprint, salt, 0, room);
+                cases.push(Case {
+                    input: table.clone(),
+                    ..case
+                });
+            }
+        }
+    }
+    cases
+}
+
+/// A case with buffers of these lengths.
+fn filled(
+    generator: &mut Generator,
+    routine: Routine,
+    salt: usize,
+    input: usize,
+    lent: usize,
+) -> Case {
+    Case {
+        routine,
+        salt: generator.vector(salt),
+        input: generator.vector(input),
+        lent: generator.vector(lent),
+    }
+}

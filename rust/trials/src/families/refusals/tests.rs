@@ -1,0 +1,76 @@
+use super::*;
+use crate::expected;
+use crate::implementation::{Implementation, LIBRARY};
+use std::collections::HashSet;
+
+/// The sets of numbers that apply to a case, over all cases.
+fn sets(cases: Vec<Case>) -> HashSet<Vec<u8>> {
+    let numbers = |case| {
+        let refusals = expected::refusals(case);
+        refusals.into_iter().map(|(number, _)| number).collect()
+    };
+    cases.iter().map(numbers).collect()
+}
+
+/// Every set of some of these numbers.
+fn every_set(numbers: &[u8]) -> HashSet<Vec<u8>> {
+    let chosen = |set: usize| {
+        let numbers = numbers.iter().enumerate();
+        let numbers = numbers.filter(|(place, _)| set >> place & 1 == 1);
+        numbers.map(|(_, number)| *number).collect()
+    };
+    (0..1 << numbers.len()).map(chosen).collect()
+}
+
+#[test]
+fn every_set_of_refusals_is_met() {
+    let generator = &mut Generator::new(1);
+    assert_eq!(sets(digests(generator)), every_set(&[1, 2, 5]));
+    assert_eq!(sets(on_squares(generator)), every_set(&[2, 6, 7]));
+    assert_eq!(sets(compressions(generator)), every_set(&[2, 6, 7]));
+    // Of 9 and 10 only the one nearer the front applies.
+    let mut tables = every_set(&[2, 5, 8, 9, 10]);
+    tables.retain(|set| !(set.contains(&9) && set.contains(&10)));
+    assert_eq!(sets(fingerprints(generator)), tables);
+}
+
+/// What the family says of an implementation with something else in its place.
+fn said(wrong: Implementation) -> String {
+    FAMILY.tried(wrong, 1, None).unwrap_err()
+}
+
+#[test]
+fn the_wrong_order_of_two_refusals_is_seen() {
+    let wrong = Implementation {
+        digest: |bits, salt, message, out| match salt.len() {
+            16 => (LIBRARY.digest)(bits, salt, message, out),
+            _ => 2,
+        },
+        ..LIBRARY
+    };
+    assert!(said(wrong).ends_with("refused 2 at 0, where refused 1 at 0 is right"));
+}
+
+#[test]
+fn a_bound_that_is_one_off_is_seen() {
+    let wrong = Implementation {
+        compress: |chaining, block, counter, salt| {
+            let counter = counter.saturating_sub(1);
+            (LIBRARY.compress)(chaining, block, counter, salt)
+        },
+        ..LIBRARY
+    };
+    assert!(said(wrong).contains("compression, counter 18446744073709551455"));
+}
+
+#[test]
+fn a_place_that_is_one_off_is_seen() {
+    let wrong = Implementation {
+        fingerprint: |salt, table, out| {
+            let (number, place) = (LIBRARY.fingerprint)(salt, table, out);
+            (number, place + u64::from(number == 10))
+        },
+        ..LIBRARY
+    };
+    assert!(said(wrong).contains("refused 10 at "));
+}

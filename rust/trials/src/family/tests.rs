@@ -1,0 +1,102 @@
+use crate::families::{compressions, every_length, random_messages, rounds_backward};
+use crate::families::{rounds_forward, tables, there_and_back};
+use crate::family::Family;
+use crate::implementation::{Implementation, LIBRARY};
+
+/// What a family says of an implementation.
+fn tried(family: &Family, subject: Implementation) -> Result<usize, String> {
+    family.tried(subject, 1, Some(200))
+}
+
+/// A padding block's counter carried on: wrong for messages whose last block
+/// holds nothing of them, and for no other.
+#[test]
+fn a_digest_that_is_wrong_at_an_edge_is_seen() {
+    let wrong = Implementation {
+        digest: |bits, salt, message, out| {
+            let number = (LIBRARY.digest)(bits, salt, message, out);
+            out[0] ^= u8::from(message.len() == 174);
+            number
+        },
+        ..LIBRARY
+    };
+    let said = tried(&every_length::FAMILY, wrong).unwrap_err();
+    assert!(said.starts_with("case 349: digest, 256 bits, "), "{said}");
+    assert!(said.contains("message of 174 bytes "), "{said}");
+}
+
+#[test]
+fn a_byte_written_behind_the_digest_is_seen() {
+    let wrong = Implementation {
+        digest: |bits, salt, message, out| {
+            let number = (LIBRARY.digest)(bits, salt, message, out);
+            if let Some(byte) = out.get_mut(bits as usize / 8) {
+                *byte = 0;
+            }
+            number
+        },
+        ..LIBRARY
+    };
+    assert!(tried(&random_messages::FAMILY, wrong).is_err());
+}
+
+#[test]
+fn rounds_that_are_reversible_but_no_rounds_are_seen() {
+    let wrong = Implementation {
+        rounds: |_, _, _, _| 0,
+        rounds_back: |_, _, _, _| 0,
+        ..LIBRARY
+    };
+    assert!(tried(&there_and_back::FAMILY, wrong).is_ok());
+    assert!(tried(&rounds_forward::FAMILY, wrong).is_err());
+    assert!(tried(&rounds_backward::FAMILY, wrong).is_err());
+}
+
+#[test]
+fn a_way_back_with_another_counter_is_seen() {
+    let wrong = Implementation {
+        rounds_back: |square, count, counter, salt| {
+            (LIBRARY.rounds_back)(square, count, counter ^ 1, salt)
+        },
+        ..LIBRARY
+    };
+    assert!(tried(&there_and_back::FAMILY, wrong).is_err());
+}
+
+#[test]
+fn a_counter_cut_to_32_bits_is_seen() {
+    let wrong = Implementation {
+        compress: |chaining, block, counter, salt| {
+            (LIBRARY.compress)(chaining, block, u64::from(counter as u32), salt)
+        },
+        ..LIBRARY
+    };
+    assert!(tried(&compressions::FAMILY, wrong).is_err());
+}
+
+#[test]
+fn a_table_that_is_one_byte_too_long_to_be_refused_is_seen() {
+    let wrong = Implementation {
+        fingerprint: |salt, table, out| {
+            let table = &table[..table.len().min(4096)];
+            (LIBRARY.fingerprint)(salt, table, out)
+        },
+        ..LIBRARY
+    };
+    assert!(tried(&tables::FAMILY, wrong).is_err());
+}
+
+#[test]
+fn the_library_passes_and_is_counted() {
+    assert_eq!(tried(&tables::FAMILY, LIBRARY), Ok(200));
+    assert_eq!(tried(&compressions::FAMILY, LIBRARY), Ok(200 + 2 * 18));
+}
+
+#[test]
+fn one_seed_gives_one_run() {
+    let first = |family: &Family, seed| family.generator(seed).number();
+    let (one, other) = (tables::FAMILY, compressions::FAMILY);
+    assert_eq!(first(&one, 1), first(&one, 1));
+    assert_ne!(first(&one, 1), first(&one, 2));
+    assert_ne!(first(&one, 1), first(&other, 1));
+}

@@ -1,0 +1,167 @@
+//! The two programs over tables, run as their users run them: `tools/run NAME`
+//! with a pipe for standard input.
+
+use crate::case::shown;
+use plain::table;
+use std::io::{ErrorKind, Write};
+use std::process::{Child, Command, Stdio};
+use std::thread;
+use std::time::Duration;
+
+/// How long a pause between two pieces is.
+const PAUSE: Duration = Duration::from_millis(2);
+
+/// A program and what it has to print.
+#[derive(Clone, Copy)]
+pub struct Program {
+    pub name: &'static str,
+    /// The right output for an input.
+    pub output: fn(&[u8]) -> String,
+}
+
+/// Lists the records of a table.
+pub const LIST: Program = Program {
+    name: "list_table",
+    output: table::list,
+};
+
+/// Prints the fingerprint of the table behind sixteen salt bytes.
+pub const FINGERPRINT: Program = Program {
+    name: "fingerprint_table",
+    output: table::fingerprint_output,
+};
+
+/// Bytes that are written at once, and whether a pause comes before them.
+pub struct Piece {
+    pub bytes: Vec<u8>,
+    pub pause: bool,
+}
+
+/// A program and its input in pieces.
+pub struct Job {
+    pub program: Program,
+    pub pieces: Vec<Piece>,
+}
+
+impl Job {
+    /// The input in one piece.
+    pub fn at_once(program: Program, input: Vec<u8>) -> Job {
+        let piece = Piece {
+            bytes: input,
+            pause: false,
+        };
+        Job {
+            program,
+            pieces: vec![piece],
+        }
+    }
+
+    fn input(&self) -> Vec<u8> {
+        self.pieces
+            .iter()
+            .flat_map(|piece| piece.bytes.clone())
+            .collect()
+    }
+
+    /// Runs the program; says what is wrong with what it printed.
+    pub fn check(&self) -> Result<(), String> {
+        let input = self.input();
+        let right = (self.program.output)(&input);
+        let wrong = match self.printed() {
+            Ok(printed) if printed == right.as_bytes() => return Ok(()),
+            Ok(printed) => {
+                let printed = String::from_utf8_lossy(&printed).into_owned();
+                format!("printed {printed:?}, where {right:?} is right")
+            }
+            Err(wrong) => wrong,
+        };
+        let (name, pieces) = (self.program.name, self.pieces.len());
+        let input = shown(&input);
+        Err(format!("{name}, {pieces} pieces, input {input}: {wrong}"))
+    }
+
+    fn printed(&self) -> Result<Vec<u8>, String> {
+        let mut child = start(self.program.name).map_err(|error| error.to_string())?;
+        feed(&mut child, &self.pieces)?;
+        let output = child
+            .wait_with_output()
+            .map_err(|error| error.to_string())?;
+        if !output.status.success() {
+            let said = String::from_utf8_lossy(&output.stderr);
+            return Err(format!("{}: {}", output.status, said.trim()));
+        }
+        Ok(output.stdout)
+    }
+}
+
+fn start(name: &str) -> std::io::Result<Child> {
+    Command::new(concat!(env!("CARGO_MANIFEST_DIR"), "/../../tools/run"))
+        .arg(name)
+        .stdin(Stdio::piped())
+        .stdout(Stdio::piped())
+        .stderr(Stdio::piped())
+        .spawn()
+}
+
+/// Writes the pieces and closes the pipe. The program may stop reading before
+/// that: it takes no more than one byte beyond the longest table. It prints only
+/// after it has read, and less than a pipe holds, so neither waits for the other.
+fn feed(child: &mut Child, pieces: &[Piece]) -> Result<(), String> {
+    let mut pipe = child.stdin.take().expect("a pipe for standard input");
+    for piece in pieces {
+        if piece.pause {
+            thread::sleep(PAUSE);
+        }
+        match pipe.write_all(&piece.bytes).and_then(|()| pipe.flush()) {
+            Ok(()) => {}
+            Err(error) if error.kind() == ErrorKind::BrokenPipe => return Ok(()),
+            Err(error) => return Err(error.to_string()),
+        }
+    }
+    Ok(())
+}
+
+/// Runs all jobs, as many at a time as there are processors. Gives what is wrong
+/// with the first that fails.
+pub fn check_all(jobs: &[Job]) -> Result<(), String> {
+    let workers = thread::available_parallelism().map_or(1, usize::from);
+    let share = jobs.len().div_ceil(workers).max(1);
+    thread::scope(|scope| {
+        let workers: Vec<_> = jobs
+            .chunks(share)
+            .map(|jobs| scope.spawn(|| jobs.iter().try_for_each(Job::check)))
+            .collect();
+        workers
+            .into_iter()
+            .try_for_each(|worker| worker.join().expect("a worker that comes back"))
+    })
+}
+
+#[cfg(test)]
+mod tests {
+    use super::*;
+
+    /// A job that no program does right.
+    fn impossible() -> Job {
+        let program = Program {
+            name: "no_such_program",
+            output: |_| String::new(),
+        };
+        Job::at_once(program, vec![1, 2, 3])
+    }
+
+    #[test]
+    fn a_program_that_fails_is_seen() {
+        let wrong = impossible().check().unwrap_err();
+        let case = "no_such_program, 1 pieces, input 010203: exit status: 2";
+        assert!(wrong.starts_with(case), "{wrong}");
+        assert!(wrong.contains("run 'make' first"), "{wrong}");
+    }
+
+    #[test]
+    fn one_job_that_fails_is_enough() {
+        assert_eq!(check_all(&[]), Ok(()));
+        let jobs: Vec<Job> = (0..5).map(|_| impossible()).collect();
+        assert!(check_all(&jobs).is_err());
+    }
+}

@@ -11,12 +11,12 @@ pub const LIMIT: usize = 4096;
 /// A table of one sort or another. Long ones are rare: they take the most time,
 /// and in a long one something near the front decides nearly always.
 pub fn some(generator: &mut Generator) -> Vec<u8> {
-    match generator.below(16) {
-        0..=2 => random_bytes(generator),
-        3..=4 => small_bytes(generator),
-        5..=8 => valid(generator),
-        9..=11 => cut(generator),
-        12..=14 => flipped(generator),
+    match generator.below(64) {
+        0..=12 => random_bytes(generator),
+        13..=20 => small_bytes(generator),
+        21..=36 => valid(generator),
+        37..=48 => cut(generator),
+        49..=61 => flipped(generator),
         _ => about_the_limit(generator),
     }
 }
@@ -54,7 +54,7 @@ pub fn of_length(generator: &mut Generator, length: usize) -> Vec<u8> {
 
 /// A few records, or now and then many.
 fn valid(generator: &mut Generator) -> Vec<u8> {
-    let most = match generator.below(32) {
+    let most = match generator.below(64) {
         0 => LIMIT - 32,
         _ => 200,
     };

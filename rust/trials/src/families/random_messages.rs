@@ -13,7 +13,7 @@ const USUAL: usize = 10_000;
 fn run(run: &mut Run) -> Result<(), String> {
     for _ in 0..run.cases(USUAL) {
         let bits = 128 + 8 * run.generator.below(49);
-        let most = run.generator.pick(&[20, 300, 1000, 1000, 1000, 5000]);
+        let most = run.generator.pick(&[20, 200, 400, 400, 400, 2000]);
         let length = run.generator.below(most + 1) as usize;
         let case = draw::digest(&mut run.generator, bits, length);
         run.check(&case)?;

@@ -1,5 +1,5 @@
-//! Inputs of the gate's programs and the outputs they have to give, from the
-//! plain implementation.
+//! Inputs of the gate's programs and the outputs they have to give, and a file of
+//! known answers, from the plain implementation.
 //!
 //! `answers DIR` writes the files into the repository at DIR; `answers --check
 //! DIR` prints each file there that differs, and exits with 1 if any does.
@@ -9,6 +9,7 @@
 mod digest_cases;
 mod echo_cases;
 mod file;
+mod known_answers;
 mod table_cases;
 mod table_programs;
 
@@ -16,13 +17,14 @@ use file::File;
 use std::path::Path;
 use std::process::ExitCode;
 
-/// The files of all programs. Each program's cases have a module of their own.
+/// All files. Each program's cases have a module of their own.
 fn files() -> Vec<File> {
     [
         echo_cases::files(),
         digest_cases::files(),
         table_programs::files(),
         table_cases::files(),
+        known_answers::files(),
     ]
     .into_iter()
     .flatten()

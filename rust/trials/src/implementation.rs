@@ -16,8 +16,11 @@ pub struct Implementation {
     /// By chaining value, block, counter and salt.
     pub compress: fn(&mut [u8], &[u8], u64, &[u8]) -> u8,
     /// By salt, table and output room.
-    pub fingerprint: fn(&[u8], &[u8], &mut [u8]) -> (u8, u64),
+    pub fingerprint: fn(&[u8], &[u8], &mut [u8]) -> Answer,
 }
+
+/// A refusal number, or 0, and a place, or 0.
+pub type Answer = (u8, u64);
 
 /// The proved library.
 pub const LIBRARY: Implementation = Implementation {
@@ -51,7 +54,7 @@ fn number(answer: Result<(), bahmorist::Refusal>) -> u8 {
 impl Implementation {
     /// Calls a routine: with the salt, what else it reads, and what it may write.
     /// Answers number and place.
-    pub fn call(&self, routine: Routine, salt: &[u8], input: &[u8], lent: &mut [u8]) -> (u8, u64) {
+    pub fn call(&self, routine: Routine, salt: &[u8], input: &[u8], lent: &mut [u8]) -> Answer {
         match routine {
             Routine::Digest { bits } => ((self.digest)(bits, salt, input, lent), 0),
             Routine::Rounds { count, counter } => ((self.rounds)(lent, count, counter, salt), 0),

@@ -1,0 +1,115 @@
+//! The known-answer file of the package `known_answers`, in the form of the files
+//! that the ECHO submission published.
+
+use crate::file::File;
+use plain::{digest, hex};
+use seeded::Generator;
+
+const HEADER: &str = "\
+# ECHO 2.0, double-pipe: digests under the all-zero salt.
+#
+# Len counts the bits of the message, and Msg = 00 stands for no byte where Len = 0. The digest is as long as MD.
+#
+# Each case says where it comes from. Those marked published are in the known-answer files of the ECHO submission. All others are
+# computed, and two implementations that share no code give them. `cargo run --release -p answers -- ..` in rust/ writes this file.
+";
+
+const COMPUTED: &str = "computed by rust/plain and rust/third";
+
+/// Digests of the empty message from the submission's known-answer files.
+const PUBLISHED: [&str; 4] = [
+    "17DA087595166F733FFF7CDB0BCA6438F303D0E00C48B5E7A3075905",
+    "4496CD09D425999AEFA75189EE7FD3C97362AA9E4CA898328002D20A4B519788",
+    "134040763F840559B84B7A1AE5D6D64FC3659821A789CC64\
+     A7F1444C09EE7F81A54D72BEEE8273BAE5EF18EC43AA5F34",
+    "158F58CC79D300A9AA292515049275D051A28AB931726D0EC44BDD9FAEF4A702\
+     C36DB9E7922FFF077402236465833C5CC76AF4EFC352B4B44C7FA15AA0EF234E",
+];
+
+/// Digest lengths and bytes of messages, on both sides of where the padding
+/// needs one block more and of a block's end.
+const SHORT: [usize; 7] = [1, 3, 173, 174, 192, 193, 400];
+const LONG: [usize; 7] = [1, 3, 109, 110, 128, 129, 400];
+const LENGTHS: [(u64, &[usize]); 8] = [
+    (224, &SHORT),
+    (256, &SHORT),
+    (384, &LONG),
+    (512, &LONG),
+    (128, &[0, 174]),
+    (160, &[3]),
+    (264, &[0, 110]),
+    (504, &[3]),
+];
+
+pub fn files() -> Vec<File> {
+    vec![File {
+        path: "rust/known_answers/ECHO.txt",
+        bytes: (HEADER.to_string() + &published() + &computed()).into(),
+    }]
+}
+
+fn published() -> String {
+    PUBLISHED
+        .iter()
+        .map(|digest| case("published", b"", digest))
+        .collect()
+}
+
+fn computed() -> String {
+    let mut generator = Generator::new(4);
+    let mut text = String::new();
+    for (bits, lengths) in LENGTHS {
+        for &length in lengths {
+            let message = generator.vector(length);
+            let digest = upper(&digest::digest(bits, &[0; 16], &message));
+            text += &case(COMPUTED, &message, &digest);
+        }
+    }
+    text
+}
+
+/// A case, with its mark in front.
+fn case(mark: &str, message: &[u8], digest: &str) -> String {
+    let bits = 8 * message.len();
+    let message = match message {
+        [] => "00".into(),
+        message => upper(message),
+    };
+    format!("\n# {mark}\nLen = {bits}\nMsg = {message}\nMD = {digest}\n")
+}
+
+/// In upper case, as the published files have it.
+fn upper(bytes: &[u8]) -> String {
+    hex::encode(bytes).to_uppercase()
+}
+
+#[cfg(test)]
+mod tests {
+    use super::*;
+
+    #[test]
+    fn the_published_digests_are_those_of_the_empty_message() {
+        for published in PUBLISHED {
+            let bits = 4 * published.len() as u64;
+            let computed = digest::digest(bits, &[0; 16], b"");
+            assert_eq!(upper(&computed), published);
+        }
+    }
+
+    #[test]
+    fn a_case_as_it_stands_in_the_file() {
+        let text = "\n# mark\nLen = 16\nMsg = 0AFF\nMD = 1B\n";
+        assert_eq!(case("mark", &[0x0a, 0xff], "1B"), text);
+        let text = "\n# mark\nLen = 0\nMsg = 00\nMD = 1B\n";
+        assert_eq!(case("mark", b"", "1B"), text);
+    }
+
+    #[test]
+    fn every_case_has_its_mark() {
+        let text = String::from_utf8(files().remove(0).bytes).unwrap();
+        let count = |line: &str| text.lines().filter(|other| *other == line).count();
+        let cases: usize = LENGTHS.iter().map(|(_, lengths)| lengths.len()).sum();
+        assert_eq!(count("# published"), PUBLISHED.len());
+        assert_eq!(count(&format!("# {COMPUTED}")), cases);
+    }
+}

@@ -1,8 +1,9 @@
 //! A family of cases, and a run of it.
 
-use crate::case::{Case, Outcome};
+use crate::case::Case;
 use crate::implementation::Implementation;
 use crate::reference;
+use crate::smallest::smallest;
 use seeded::Generator;
 
 /// Cases of one kind.
@@ -63,25 +64,25 @@ impl Run {
 
     /// Holds the implementation under trial against the references on a case.
     pub fn check(&mut self, case: &Case) -> Result<(), String> {
-        self.guarded(case).map(|_| ())
+        let Some(wrong) = self.wrong(case) else {
+            self.agreed += 1;
+            return Ok(());
+        };
+        // What fails by the bytes beside it alone may not fail again.
+        let smallest = smallest(case, |case| self.wrong(case).is_some());
+        let wrong = self.wrong(&smallest).unwrap_or(wrong);
+        Err(format!("case {}: {smallest}: {wrong}", self.agreed + 1))
     }
 
-    /// The same, handing out what came of the case.
-    pub fn guarded(&mut self, case: &Case) -> Result<Outcome, String> {
-        let outcome = case.guarded_outcome(&self.subject, &mut self.generator);
-        let checked = outcome.and_then(|outcome| {
-            let right = reference::outcome(case)?;
-            match outcome.difference(&right) {
-                None => Ok(outcome),
-                Some(difference) => Err(difference),
-            }
-        });
-        match checked {
-            Ok(outcome) => {
-                self.agreed += 1;
-                Ok(outcome)
-            }
-            Err(wrong) => Err(format!("case {}: {case}: {wrong}", self.agreed + 1)),
+    /// What is wrong with what came of a case, if anything is.
+    fn wrong(&mut self, case: &Case) -> Option<String> {
+        let outcome = match case.guarded_outcome(&self.subject, &mut self.generator) {
+            Ok(outcome) => outcome,
+            Err(wrong) => return Some(wrong),
+        };
+        match reference::outcome(case) {
+            Ok(right) => outcome.difference(&right),
+            Err(wrong) => Some(wrong),
         }
     }
 

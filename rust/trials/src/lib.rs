@@ -18,4 +18,5 @@ pub mod guarded;
 pub mod implementation;
 pub mod program;
 pub mod reference;
+pub mod smallest;
 pub mod table;

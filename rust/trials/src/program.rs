@@ -121,9 +121,24 @@ fn feed(child: &mut Child, pieces: &[Piece]) -> Result<(), String> {
     Ok(())
 }
 
+/// How many cases' jobs are made before they are run, to keep memory small.
+const BATCH: usize = 100;
+
+/// Makes and runs the jobs of so many cases, two for each, and gives their count.
+pub fn check_each(cases: usize, mut jobs: impl FnMut() -> [Job; 2]) -> Result<usize, String> {
+    let mut left = cases;
+    while left > 0 {
+        let batch = left.min(BATCH);
+        let jobs: Vec<Job> = (0..batch).flat_map(|_| jobs()).collect();
+        check_all(&jobs)?;
+        left -= batch;
+    }
+    Ok(2 * cases)
+}
+
 /// Runs all jobs, as many at a time as there are processors. Gives what is wrong
 /// with the first that fails.
-pub fn check_all(jobs: &[Job]) -> Result<(), String> {
+fn check_all(jobs: &[Job]) -> Result<(), String> {
     let workers = thread::available_parallelism().map_or(1, usize::from);
     let share = jobs.len().div_ceil(workers).max(1);
     thread::scope(|scope| {
@@ -163,5 +178,7 @@ mod tests {
         assert_eq!(check_all(&[]), Ok(()));
         let jobs: Vec<Job> = (0..5).map(|_| impossible()).collect();
         assert!(check_all(&jobs).is_err());
+        assert!(check_each(1, || [impossible(), impossible()]).is_err());
+        assert_eq!(check_each(0, || [impossible(), impossible()]), Ok(0));
     }
 }

@@ -8,7 +8,7 @@ pub const FAMILY: Family = Family {
     run,
 };
 
-const USUAL: usize = 5_000;
+const USUAL: usize = 2_000;
 
 /// Chaining words of the two families.
 const WORDS: [usize; 2] = [4, 8];

@@ -3,7 +3,7 @@
 
 use super::program_tables::salted;
 use crate::family::{Family, Run};
-use crate::program::{check_all, Job, Piece, FINGERPRINT, LIST};
+use crate::program::{check_each, Job, Piece, FINGERPRINT, LIST};
 use crate::table;
 use seeded::Generator;
 
@@ -12,7 +12,7 @@ pub const FAMILY: Family = Family {
     run,
 };
 
-const USUAL: usize = 40;
+const USUAL: usize = 30;
 
 /// The most bytes of an input.
 const MOST: u64 = 70_000;
@@ -23,17 +23,15 @@ const PIECES: usize = 300;
 fn run(run: &mut Run) -> Result<(), String> {
     let cases = run.cases(USUAL);
     let generator = &mut run.generator;
-    let mut jobs = Vec::new();
-    for _ in 0..cases {
+    let agreed = check_each(cases, || {
         let table = some_length(generator);
         let input = salted(generator, &table);
-        for (program, input) in [(LIST, table), (FINGERPRINT, input)] {
-            let pieces = pieces(generator, &input);
-            jobs.push(Job { program, pieces });
-        }
-    }
-    check_all(&jobs)?;
-    run.count(jobs.len());
+        [(LIST, table), (FINGERPRINT, input)].map(|(program, input)| Job {
+            program,
+            pieces: pieces(generator, &input),
+        })
+    })?;
+    run.count(agreed);
     Ok(())
 }
 

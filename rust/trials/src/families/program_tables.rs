@@ -1,7 +1,7 @@
 //! Tables through the two programs.
 
 use crate::family::{Family, Run};
-use crate::program::{check_all, Job, FINGERPRINT, LIST};
+use crate::program::{check_each, Job, FINGERPRINT, LIST};
 use crate::table;
 use seeded::Generator;
 
@@ -13,17 +13,14 @@ pub const FAMILY: Family = Family {
 const USUAL: usize = 150;
 
 fn run(run: &mut Run) -> Result<(), String> {
-    let mut jobs = Vec::new();
-    for _ in 0..run.cases(USUAL) {
-        let table = table::some(&mut run.generator);
-        jobs.push(Job::at_once(
-            FINGERPRINT,
-            salted(&mut run.generator, &table),
-        ));
-        jobs.push(Job::at_once(LIST, table));
-    }
-    check_all(&jobs)?;
-    run.count(jobs.len());
+    let cases = run.cases(USUAL);
+    let generator = &mut run.generator;
+    let agreed = check_each(cases, || {
+        let table = table::some(generator);
+        let input = salted(generator, &table);
+        [Job::at_once(LIST, table), Job::at_once(FINGERPRINT, input)]
+    })?;
+    run.count(agreed);
     Ok(())
 }
 

@@ -9,7 +9,7 @@ pub const FAMILY: Family = Family {
     run,
 };
 
-const USUAL: usize = 5_000;
+const USUAL: usize = 2_000;
 
 fn run(run: &mut Run) -> Result<(), String> {
     each_start(run, USUAL, |run, count, counter| {

@@ -12,7 +12,7 @@ pub const FAMILY: Family = Family {
     run,
 };
 
-const USUAL: usize = 2_500;
+const USUAL: usize = 1_000;
 
 fn run(run: &mut Run) -> Result<(), String> {
     each_start(run, USUAL, |run, count, counter| {

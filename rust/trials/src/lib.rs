@@ -4,7 +4,7 @@
 //! A [`case::Case`] is one call of a routine. It is made with everything lent
 //! from the middle of larger buffers ([`guarded`]), and held against what
 //! `plain`, the table of refusals ([`expected`]) and, where it answers, `third`
-//! say of it ([`reference`]). [`families`] are the sorts of cases.
+//! say of it ([`mod@reference`]). [`families`] are the sorts of cases.
 
 #![deny(unsafe_code)]
 

@@ -141,9 +141,10 @@ impl Outcome {
     }
 
     fn answer(&self) -> String {
-        match self.number {
-            0 => "done".into(),
-            number => format!("refused {number} at {}", self.place),
+        match (self.number, self.place) {
+            (0, 0) => "done".into(),
+            (0, place) => format!("done at {place}"),
+            (number, place) => format!("refused {number} at {place}"),
         }
     }
 }

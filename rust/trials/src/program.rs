@@ -69,10 +69,7 @@ impl Job {
         let right = (self.program.output)(&input);
         let wrong = match self.printed() {
             Ok(printed) if printed == right.as_bytes() => return Ok(()),
-            Ok(printed) => {
-                let printed = String::from_utf8_lossy(&printed).into_owned();
-                format!("printed {printed:?}, where {right:?} is right")
-            }
+            Ok(printed) => difference(&String::from_utf8_lossy(&printed), &right),
             Err(wrong) => wrong,
         };
         let (name, pieces) = (self.program.name, self.pieces.len());
@@ -91,6 +88,26 @@ impl Job {
             return Err(format!("{}: {}", output.status, said.trim()));
         }
         Ok(output.stdout)
+    }
+}
+
+/// The first line that is wrong, and what is right there. What stands behind the
+/// last line end is a line too, so that two texts that differ have such a line.
+fn difference(printed: &str, right: &str) -> String {
+    let (mut printed, mut right) = (printed.split('\n'), right.split('\n'));
+    let mut line = 0;
+    loop {
+        line += 1;
+        match (printed.next(), right.next()) {
+            (Some(printed), Some(right)) if printed == right => {}
+            (printed, right) => {
+                let [printed, right] = [printed, right].map(|text| match text {
+                    Some(text) => format!("{text:?}"),
+                    None => "nothing".into(),
+                });
+                return format!("line {line} is {printed}, where {right} is right");
+            }
+        }
     }
 }
 
@@ -171,6 +188,18 @@ mod tests {
         let case = "no_such_program, 1 pieces, input 010203: exit status: 2";
         assert!(wrong.starts_with(case), "{wrong}");
         assert!(wrong.contains("run 'make' first"), "{wrong}");
+    }
+
+    #[test]
+    fn the_first_wrong_line_is_told() {
+        let wrong = "line 2 is \"b\", where \"c\" is right";
+        assert_eq!(difference("a\nb\n", "a\nc\nd\n"), wrong);
+        let missing = "line 2 is nothing, where \"b\" is right";
+        assert_eq!(difference("a", "a\nb\n"), missing);
+        let no_line_end = "line 2 is nothing, where \"\" is right";
+        assert_eq!(difference("a", "a\n"), no_line_end);
+        let spare = "line 3 is \"\", where nothing is right";
+        assert_eq!(difference("a\n\n", "a\n"), spare);
     }
 
     #[test]

@@ -65,6 +65,12 @@ fn every_part_of_an_outcome_counts() {
     };
     let seen = "refused 9 at 4, where refused 9 at 3 is right";
     assert_eq!(place.difference(&number), Some(seen.into()));
+    let place = Outcome {
+        place: 4,
+        ..right.clone()
+    };
+    let seen = "done at 4, where done is right";
+    assert_eq!(place.difference(&right), Some(seen.into()));
     let mut lent = right.clone();
     lent.lent[19] = 0xef;
     let seen = "lent byte 19 became ef, where ee is right";

@@ -22,20 +22,16 @@ fn iterate<const C: usize>(bits: u64, count: u64, salt: Vector, message: &[u8]) 
     let block_bytes = 16 * (16 - C);
     let bit_count = 8 * message.len() as u64;
     let mut chaining = [load(u128::from(bits).to_le_bytes()); C];
-    let mut blocks = message.chunks_exact(block_bytes);
-    let mut taken = 0;
-    for block in &mut blocks {
-        taken += 8 * block_bytes as u64;
-        compress(&mut chaining, block, count, taken, salt);
-    }
-    let (end, size) = last_blocks(bits, bit_count, blocks.remainder(), block_bytes);
+    let whole = message.chunks_exact(block_bytes);
+    let (end, size) = last_blocks(bits, bit_count, whole.remainder(), block_bytes);
     // A block that holds nothing of the message has the counter 0.
-    let first = if blocks.remainder().is_empty() {
-        0
-    } else {
-        bit_count
+    let first = match whole.remainder() {
+        [] => 0,
+        _ => bit_count,
     };
-    for (block, counter) in end[..size].chunks_exact(block_bytes).zip([first, 0]) {
+    let taken = (1..).map(|blocks| 8 * blocks * block_bytes as u64);
+    let end = end[..size].chunks_exact(block_bytes).zip([first, 0]);
+    for (block, counter) in whole.zip(taken).chain(end) {
         compress(&mut chaining, block, count, counter, salt);
     }
     let mut bytes: Vec<u8> = chaining.into_iter().flat_map(store).collect();

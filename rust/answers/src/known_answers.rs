@@ -26,6 +26,9 @@ const PUBLISHED: [&str; 4] = [
      C36DB9E7922FFF077402236465833C5CC76AF4EFC352B4B44C7FA15AA0EF234E",
 ];
 
+/// What the examples of the documentation digest.
+const EXAMPLE: (u64, &[u8]) = (256, b"abc");
+
 /// Digest lengths and bytes of messages, on both sides of where the padding
 /// needs one block more and of a block's end.
 const SHORT: [usize; 7] = [1, 3, 173, 174, 192, 193, 400];
@@ -57,15 +60,18 @@ fn published() -> String {
 
 fn computed() -> String {
     let mut generator = Generator::new(4);
-    let mut text = String::new();
+    let mut text = computed_case(EXAMPLE.0, EXAMPLE.1);
     for (bits, lengths) in LENGTHS {
         for &length in lengths {
-            let message = generator.vector(length);
-            let digest = upper(&digest::digest(bits, &[0; 16], &message));
-            text += &case(COMPUTED, &message, &digest);
+            text += &computed_case(bits, &generator.vector(length));
         }
     }
     text
+}
+
+fn computed_case(bits: u64, message: &[u8]) -> String {
+    let digest = digest::digest(bits, &[0; 16], message);
+    case(COMPUTED, message, &upper(&digest))
 }
 
 /// A case, with its mark in front.
@@ -110,6 +116,6 @@ mod tests {
         let count = |line: &str| text.lines().filter(|other| *other == line).count();
         let cases: usize = LENGTHS.iter().map(|(_, lengths)| lengths.len()).sum();
         assert_eq!(count("# published"), PUBLISHED.len());
-        assert_eq!(count(&format!("# {COMPUTED}")), cases);
+        assert_eq!(count(&format!("# {COMPUTED}")), 1 + cases);
     }
 }

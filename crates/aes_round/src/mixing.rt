@@ -15,10 +15,12 @@ fn product(p: u8, q: u8, r: u8, s: u8, c: [u8; 4]) -> u8
     (times(p, c[0]) ^ times(q, c[1])) ^ (times(r, c[2]) ^ times(s, c[3]))
 }
 
-// A matrix times a column. The coefficients are taken by literal index, so that a constant matrix folds into the code.
-fn mix_with(m: [u8; 16], c: [u8; 4]) -> [u8; 4]
-    ensures { λ r. ⌜ r ≡ mixColumn m c ⌝ }
+// The two name their own matrix and take its coefficients by literal index, so that they fold into the code. Over one function for both
+// matrices they don't, since the compiler does not inline it twice, and a digest takes ten times as long.
+pub fn mix(c: [u8; 4]) -> [u8; 4]
+    ensures { λ r. ⌜ r ≡ mixColumn forward c ⌝ }
 {
+    let m = FORWARD;
     [
         product(m[0], m[1], m[2], m[3], c),
         product(m[4], m[5], m[6], m[7], c),
@@ -27,14 +29,14 @@ fn mix_with(m: [u8; 16], c: [u8; 4]) -> [u8; 4]
     ]
 }
 
-pub fn mix(c: [u8; 4]) -> [u8; 4]
-    ensures { λ r. ⌜ r ≡ mixColumn forward c ⌝ }
-{
-    mix_with(FORWARD, c)
-}
-
 pub fn mix_back(c: [u8; 4]) -> [u8; 4]
     ensures { λ r. ⌜ r ≡ mixColumn backward c ⌝ }
 {
-    mix_with(BACKWARD, c)
+    let m = BACKWARD;
+    [
+        product(m[0], m[1], m[2], m[3], c),
+        product(m[4], m[5], m[6], m[7], c),
+        product(m[8], m[9], m[10], m[11], c),
+        product(m[12], m[13], m[14], m[15], c),
+    ]
 }

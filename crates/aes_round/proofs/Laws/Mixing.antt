@@ -15,6 +15,10 @@ use Rattle.aes_round.proofs.Laws.Xor.{xor-lt, xor-self, xor-swap, xor-t
 use Rattle.aes_round.proofs.Laws.Linear.{Linear, lin-after, lin-ext, lin-sum}
 use Rattle.aes_round.proofs.Laws.Field.{mul-lt, mul-xor}
 
+-- four bytes, each by its own equation
+pub four : {a b c d a′ b′ c′ d′ : ℕ} → a ≡ a′ → b ≡ b′ → c ≡ c′ → d ≡ d′ → a ∷ b ∷ c ∷ d ∷ [] ≡ a′ ∷ b′ ∷ c′ ∷ d′ ∷ []
+four p q r s = cc
+
 abbrev sum4 : ℕ → ℕ → ℕ → ℕ → ℕ
 sum4 a b c d = xor (xor a b) (xor c d)
 

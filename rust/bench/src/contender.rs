@@ -1,0 +1,45 @@
+//! What is timed: three implementations of a digest.
+
+/// An implementation, which digests into the front of a room of 64 bytes. False
+/// where the machine does not have it.
+pub struct Contender {
+    pub digest: fn(u64, &[u8], &mut [u8; 64]) -> bool,
+}
+
+/// Places in [`CONTENDERS`].
+pub const LIBRARY: usize = 0;
+pub const PLAIN: usize = 1;
+
+/// The salt of every run.
+const SALT: [u8; 16] = [7; 16];
+
+pub const CONTENDERS: [Contender; 3] = [
+    Contender {
+        digest: |bits, message, out| bahmorist::digest(bits, &SALT, message, out).is_ok(),
+    },
+    Contender {
+        digest: |bits, message, out| put(&plain::digest::digest(bits, &SALT, message), out),
+    },
+    Contender {
+        digest: |bits, message, out| {
+            third::digest(bits, &SALT, message).is_some_and(|digest| put(&digest, out))
+        },
+    },
+];
+
+fn put(digest: &[u8], out: &mut [u8; 64]) -> bool {
+    out[..digest.len()].copy_from_slice(digest);
+    true
+}
+
+impl Contender {
+    /// Whether the machine has it. What it digests must be what `plain` does, so
+    /// that all are timed at the same work.
+    pub fn agrees(&self, bits: u64, message: &[u8]) -> bool {
+        let (mut own, mut plain) = ([0; 64], [0; 64]);
+        (CONTENDERS[PLAIN].digest)(bits, message, &mut plain);
+        let has = (self.digest)(bits, message, &mut own);
+        assert!(!has || own == plain, "two digests of one message");
+        has
+    }
+}

@@ -1,5 +1,5 @@
 -- Each refusal from the tests that lead to it, and what no refusal means. Assumes nothing.
-use mathlib.Core.Path.{_≡_, refl, sym, ap, subst}
+use mathlib.Core.Path.{_≡_, _∙_, refl, sym, ap, subst}
 use mathlib.Core.Bool.{Bool, true, false, not, _&&_, _||_, or-false, true≢false}
 use mathlib.Core.Logic.{_⊎_, inl, inr, ⊎-elim}
 use mathlib.Core.List.{List, [], _∷_}
@@ -10,6 +10,9 @@ use lib.Dec.{eqb, ltb}
 use Rattle.echo.specs.Refusals.{Refusal, _when_, firstOf, unless}
 use Rattle.echo.specs.Families.{roundCount, sizesFit}
 use Rattle.echo.specs.Routines.{compressRefusal, roundsRefusal}
+use Rattle.echo.specs.Session.{isSession, readAnswer, readRefusal}
+use Rattle.echo.specs.declared.session.Answer.{Answer}
+use Rattle.echo.specs.declared.session.Session.{Session}
 
 -- with a chaining variable of 64 bytes the block decides
 pub sizes-64 : (c b : ℕ) → c ≡ 64 → eqb b 192 ≡ sizesFit c b
@@ -102,6 +105,14 @@ rounds-fit square count counter salt e =
 -- the counters of all words fit
 pub counters-fit : {square count counter salt : ℕ} → RoundsFit square count counter salt → counter + 16 * count ≤ 2 ^ 64
 counters-fit F = ⊎-elim (λ e. omega arith) (λ e. omega arith) (F .count-fits)
+
+-- a digest that was read fits its room
+pub read-fits : (s : Session) (room : ℕ) {r : Answer} → r ≡ readAnswer s room → r .refusal ≡ 0 → s .bits / 8 ≤ room
+unfolding readAnswer readRefusal
+read-fits s room e z =
+    let small = ltb room (s .bits / 8) in
+    let a = none-first 3 (not (isSession s)) ((5 when small) ∷ []) (λ z. omega arith) (sym (ap (λ (r : Answer). r .refusal) e) ∙ z) in
+    ltb-false room (s .bits / 8) (none-first 5 small [] (λ z. omega arith) (a .1) .0)
 
 pub kept : {A : Type 0} (n : ℕ) (a b : A) → (n ≡ 0 → ⊥) → unless n a b ≡ b
 kept zero a b h = absurd (h refl)

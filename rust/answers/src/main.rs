@@ -8,6 +8,7 @@
 
 mod digest_cases;
 mod echo_cases;
+mod echosum;
 mod file;
 mod known_answers;
 mod table_cases;
@@ -24,6 +25,7 @@ fn files() -> Vec<File> {
         digest_cases::files(),
         table_programs::files(),
         table_cases::files(),
+        echosum::files(),
         known_answers::files(),
     ]
     .into_iter()

@@ -1,14 +1,26 @@
-# make        proves and builds everything, then runs the main job on an example
-# make test   the gate
-.PHONY: all test
+# make                          proves and builds everything, then runs the main job on examples
+# make test                     the gate
+# make bench                    times and stack of a digest, against plain and the AES instruction
+# make trials SEED=1 CASES=1000 a longer run against the second implementation, with its own seed and number of cases
+.PHONY: all test bench trials
 
-# The example: a steering table's records and its fingerprint, and the published digests of the empty message at 224, 256, 384 and 512
-# bits, each at once and over a session.
+# The examples: a steering table's records and its fingerprint, and the digest of "abc" from the command line, from C and from Rust.
 all:
 	rt check
+	tools/library
 	tools/run list_table <crates/list_table/stdin
 	tools/run fingerprint_table <crates/fingerprint_table/stdin
-	head -c 256 crates/digest_cases/stdin | tools/run digest_cases
+	printf abc | tools/run echosum
 
 test:
 	.ci/run
+
+bench:
+	tools/library
+	cargo run --quiet --release --offline --manifest-path rust/Cargo.toml -p bench
+
+SEED = 1
+CASES = 1000
+trials:
+	tools/library
+	cargo run --quiet --release --offline --manifest-path rust/Cargo.toml -p trials -- --seed $(SEED) --cases $(CASES)

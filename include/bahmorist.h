@@ -2,7 +2,7 @@
  *
  * Link target/staticlib/libbahmorist.a, which `rt staticlib bahmorist` makes for x86-64 Linux; `tools/library` makes
  * target/native/libbahmorist.a for the machine at hand. The library keeps nothing between calls, allocates nothing and may be called from
- * several threads at once. A digest takes some 4,500 bytes of stack.
+ * several threads at once. As it is compiled today no call takes more than 6,000 bytes of stack.
  *
  * Each function answers 0, or the number that it refuses by:
  *

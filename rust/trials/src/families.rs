@@ -2,6 +2,7 @@
 
 pub mod block_edges;
 pub mod compressions;
+pub mod echosum_words;
 pub mod every_length;
 pub mod null_pointers;
 pub mod program_pieces;
@@ -15,7 +16,7 @@ pub mod there_and_back;
 
 use crate::family::Family;
 
-pub const ALL: [Family; 12] = [
+pub const ALL: [Family; 13] = [
     block_edges::FAMILY,
     every_length::FAMILY,
     random_messages::FAMILY,
@@ -28,4 +29,5 @@ pub const ALL: [Family; 12] = [
     tables::FAMILY,
     program_tables::FAMILY,
     program_pieces::FAMILY,
+    echosum_words::FAMILY,
 ];

@@ -1,32 +1,34 @@
-//! The two programs over tables, run as their users run them: `tools/run NAME`
-//! with a pipe for standard input.
+//! The programs, run as their users run them: `tools/run NAME` with a pipe for
+//! standard input.
 
 use crate::case::shown;
 use plain::table;
 use std::io::{ErrorKind, Write};
-use std::process::{Child, Command, Stdio};
+use std::path::PathBuf;
+use std::process::{Child, Command, Output, Stdio};
 use std::thread;
 use std::time::Duration;
 
 /// How long a pause between two pieces is.
 const PAUSE: Duration = Duration::from_millis(2);
 
-/// A program and what it has to print.
+/// A program over tables, which takes no words and says nothing on standard
+/// error, and what it has to print.
 #[derive(Clone, Copy)]
-pub struct Program {
-    pub name: &'static str,
+pub struct TableProgram {
+    name: &'static str,
     /// The right output for an input.
-    pub output: fn(&[u8]) -> String,
+    output: fn(&[u8]) -> String,
 }
 
 /// Lists the records of a table.
-pub const LIST: Program = Program {
+pub const LIST: TableProgram = TableProgram {
     name: "list_table",
     output: table::list,
 };
 
 /// Prints the fingerprint of the table behind sixteen salt bytes.
-pub const FINGERPRINT: Program = Program {
+pub const FINGERPRINT: TableProgram = TableProgram {
     name: "fingerprint_table",
     output: table::fingerprint_output,
 };
@@ -37,58 +39,96 @@ pub struct Piece {
     pub pause: bool,
 }
 
-/// A program and its input in pieces.
+/// The input in one piece.
+pub fn at_once(input: Vec<u8>) -> Vec<Piece> {
+    vec![Piece {
+        bytes: input,
+        pause: false,
+    }]
+}
+
+/// A program's words and its input in pieces, and what is right.
 pub struct Job {
-    pub program: Program,
+    pub name: &'static str,
+    pub words: Vec<String>,
+    /// Where it is run, if that matters.
+    pub folder: Option<PathBuf>,
     pub pieces: Vec<Piece>,
+    /// What it has to print, and to say on standard error.
+    pub output: String,
+    pub said: String,
 }
 
 impl Job {
-    /// The input in one piece.
-    pub fn at_once(program: Program, input: Vec<u8>) -> Job {
-        let piece = Piece {
-            bytes: input,
-            pause: false,
-        };
+    /// A program over tables on an input.
+    pub fn of_table(program: TableProgram, pieces: Vec<Piece>) -> Job {
         Job {
-            program,
-            pieces: vec![piece],
+            name: program.name,
+            words: Vec::new(),
+            folder: None,
+            output: (program.output)(&joined(&pieces)),
+            said: String::new(),
+            pieces,
         }
     }
 
-    fn input(&self) -> Vec<u8> {
-        self.pieces
-            .iter()
-            .flat_map(|piece| piece.bytes.clone())
-            .collect()
-    }
-
-    /// Runs the program; says what is wrong with what it printed.
+    /// Runs the program; says what is wrong with what it printed and said.
     pub fn check(&self) -> Result<(), String> {
-        let input = self.input();
-        let right = (self.program.output)(&input);
         let wrong = match self.printed() {
-            Ok(printed) if printed == right.as_bytes() => return Ok(()),
-            Ok(printed) => difference(&String::from_utf8_lossy(&printed), &right),
+            Ok(printed) if printed == (self.output.clone(), self.said.clone()) => return Ok(()),
+            Ok((output, said)) if output == self.output => {
+                format!("on standard error {}", difference(&said, &self.said))
+            }
+            Ok((output, _)) => difference(&output, &self.output),
             Err(wrong) => wrong,
         };
-        let (name, pieces) = (self.program.name, self.pieces.len());
-        let input = shown(&input);
-        Err(format!("{name}, {pieces} pieces, input {input}: {wrong}"))
+        let words: String = self.words.iter().map(|word| format!(" {word:?}")).collect();
+        let (name, pieces) = (self.name, self.pieces.len());
+        let input = shown(&joined(&self.pieces));
+        Err(format!(
+            "{name}{words}, {pieces} pieces, input {input}: {wrong}"
+        ))
     }
 
-    fn printed(&self) -> Result<Vec<u8>, String> {
-        let mut child = start(self.program.name).map_err(|error| error.to_string())?;
+    /// What the program printed, and said on standard error.
+    fn printed(&self) -> Result<(String, String), String> {
+        let mut child = self.start().map_err(|error| error.to_string())?;
         feed(&mut child, &self.pieces)?;
-        let output = child
+        let Output {
+            status,
+            stdout,
+            stderr,
+        } = child
             .wait_with_output()
             .map_err(|error| error.to_string())?;
-        if !output.status.success() {
-            let said = String::from_utf8_lossy(&output.stderr);
-            return Err(format!("{}: {}", output.status, said.trim()));
+        let [output, said] = [stdout, stderr].map(|text| String::from_utf8_lossy(&text).into());
+        if !status.success() {
+            let said: String = said;
+            return Err(format!("{status}: {}", said.trim()));
         }
-        Ok(output.stdout)
+        Ok((output, said))
     }
+
+    fn start(&self) -> std::io::Result<Child> {
+        let mut command = Command::new(concat!(env!("CARGO_MANIFEST_DIR"), "/../../tools/run"));
+        if let Some(folder) = &self.folder {
+            command.current_dir(folder);
+        }
+        command
+            .arg(self.name)
+            .args(&self.words)
+            .stdin(Stdio::piped())
+            .stdout(Stdio::piped())
+            .stderr(Stdio::piped())
+            .spawn()
+    }
+}
+
+fn joined(pieces: &[Piece]) -> Vec<u8> {
+    pieces
+        .iter()
+        .flat_map(|piece| piece.bytes.clone())
+        .collect()
 }
 
 /// The first line that is wrong, and what is right there. What stands behind the
@@ -111,18 +151,10 @@ fn difference(printed: &str, right: &str) -> String {
     }
 }
 
-fn start(name: &str) -> std::io::Result<Child> {
-    Command::new(concat!(env!("CARGO_MANIFEST_DIR"), "/../../tools/run"))
-        .arg(name)
-        .stdin(Stdio::piped())
-        .stdout(Stdio::piped())
-        .stderr(Stdio::piped())
-        .spawn()
-}
-
-/// Writes the pieces and closes the pipe. The program may stop reading before
-/// that: it takes no more than one byte beyond the longest table. It prints only
-/// after it has read, and less than a pipe holds, so neither waits for the other.
+/// Writes the pieces and closes the pipe. A program may stop reading before that:
+/// one over tables takes no more than one byte beyond the longest table. Each
+/// prints only after it has read, and less than a pipe holds, so neither waits for
+/// the other.
 fn feed(child: &mut Child, pieces: &[Piece]) -> Result<(), String> {
     let mut pipe = child.stdin.take().expect("a pipe for standard input");
     for piece in pieces {
@@ -141,21 +173,22 @@ fn feed(child: &mut Child, pieces: &[Piece]) -> Result<(), String> {
 /// How many cases' jobs are made before they are run, to keep memory small.
 const BATCH: usize = 100;
 
-/// Makes and runs the jobs of so many cases, two for each, and gives their count.
-pub fn check_each(cases: usize, mut jobs: impl FnMut() -> [Job; 2]) -> Result<usize, String> {
-    let mut left = cases;
+/// Makes and runs the jobs of so many cases, and gives their count.
+pub fn check_each(cases: usize, mut jobs: impl FnMut() -> Vec<Job>) -> Result<usize, String> {
+    let (mut left, mut agreed) = (cases, 0);
     while left > 0 {
         let batch = left.min(BATCH);
         let jobs: Vec<Job> = (0..batch).flat_map(|_| jobs()).collect();
         check_all(&jobs)?;
+        agreed += jobs.len();
         left -= batch;
     }
-    Ok(2 * cases)
+    Ok(agreed)
 }
 
 /// Runs all jobs, as many at a time as there are processors. Gives what is wrong
 /// with the first that fails.
-fn check_all(jobs: &[Job]) -> Result<(), String> {
+pub fn check_all(jobs: &[Job]) -> Result<(), String> {
     let workers = thread::available_parallelism().map_or(1, usize::from);
     let share = jobs.len().div_ceil(workers).max(1);
     thread::scope(|scope| {
@@ -175,11 +208,11 @@ mod tests {
 
     /// A job that no program does right.
     fn impossible() -> Job {
-        let program = Program {
+        let program = TableProgram {
             name: "no_such_program",
             output: |_| String::new(),
         };
-        Job::at_once(program, vec![1, 2, 3])
+        Job::of_table(program, at_once(vec![1, 2, 3]))
     }
 
     #[test]
@@ -207,7 +240,7 @@ mod tests {
         assert_eq!(check_all(&[]), Ok(()));
         let jobs: Vec<Job> = (0..5).map(|_| impossible()).collect();
         assert!(check_all(&jobs).is_err());
-        assert!(check_each(1, || [impossible(), impossible()]).is_err());
-        assert_eq!(check_each(0, || [impossible(), impossible()]), Ok(0));
+        assert!(check_each(1, || vec![impossible()]).is_err());
+        assert_eq!(check_each(0, || vec![impossible()]), Ok(0));
     }
 }

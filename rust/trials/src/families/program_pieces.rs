@@ -1,14 +1,17 @@
-//! Inputs of up to 70,000 bytes through the two programs, in pieces of random
-//! sizes with pauses in between: a program reads on until it has what it needs.
+//! Inputs of up to 70,000 bytes through the programs, in pieces of random sizes
+//! with pauses in between: a program reads on until it has what it needs.
 
+use super::echosum_words::{line, NAME};
 use super::program_tables::salted;
+use crate::draw;
 use crate::family::{Family, Run};
 use crate::program::{check_each, Job, Piece, FINGERPRINT, LIST};
 use crate::table;
+use plain::hex;
 use seeded::Generator;
 
 pub const FAMILY: Family = Family {
-    name: "inputs in pieces through both programs",
+    name: "inputs in pieces through the three programs",
     run,
 };
 
@@ -26,13 +29,33 @@ fn run(run: &mut Run) -> Result<(), String> {
     let agreed = check_each(cases, || {
         let table = some_length(generator);
         let input = salted(generator, &table);
-        [(LIST, table), (FINGERPRINT, input)].map(|(program, input)| Job {
-            program,
-            pieces: pieces(generator, &input),
-        })
+        let listed = pieces(generator, &table);
+        let fingerprinted = pieces(generator, &input);
+        vec![
+            Job::of_table(LIST, listed),
+            Job::of_table(FINGERPRINT, fingerprinted),
+            summed(generator),
+        ]
     })?;
     run.count(agreed);
     Ok(())
+}
+
+/// A digest of what comes on standard input.
+fn summed(generator: &mut Generator) -> Job {
+    let bits = 128 + 8 * generator.below(49);
+    let salt = draw::salt(generator);
+    let length = 1 + generator.below(MOST) as usize;
+    let message = generator.vector(length);
+    let words = ["-b", &bits.to_string(), "-s", &hex::encode(&salt)];
+    Job {
+        name: NAME,
+        words: words.map(String::from).to_vec(),
+        folder: None,
+        pieces: pieces(generator, &message),
+        output: line(bits, &salt, &message, "-"),
+        said: String::new(),
+    }
 }
 
 /// A table, or records up to any length: within the limit two times in three.

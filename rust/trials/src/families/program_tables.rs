@@ -1,7 +1,7 @@
 //! Tables through the two programs.
 
 use crate::family::{Family, Run};
-use crate::program::{check_each, Job, FINGERPRINT, LIST};
+use crate::program::{at_once, check_each, Job, FINGERPRINT, LIST};
 use crate::table;
 use seeded::Generator;
 
@@ -18,7 +18,10 @@ fn run(run: &mut Run) -> Result<(), String> {
     let agreed = check_each(cases, || {
         let table = table::some(generator);
         let input = salted(generator, &table);
-        [Job::at_once(LIST, table), Job::at_once(FINGERPRINT, input)]
+        vec![
+            Job::of_table(LIST, at_once(table)),
+            Job::of_table(FINGERPRINT, at_once(input)),
+        ]
     })?;
     run.count(agreed);
     Ok(())

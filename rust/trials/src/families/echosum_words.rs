@@ -1,0 +1,176 @@
+//! Command lines of `echosum`: what it prints and what it says on standard error,
+//! on good words and bad ones.
+
+use crate::family::{Family, Run};
+use crate::program::{at_once, check_all, Job};
+use plain::{digest, hex};
+use std::path::{Path, PathBuf};
+use std::{env, fs, process};
+
+pub const FAMILY: Family = Family {
+    name: "command lines of echosum",
+    run,
+};
+
+pub const NAME: &str = "echosum";
+
+const USAGE: &str = "usage: echosum [-b BITS] [-s SALT] [FILE...] (the exit status is always 0: all went well if standard error is empty)\n";
+
+const ZEROS: [u8; 16] = [0; 16];
+const SALT: [u8; 16] = *b"\x00\x0a\xa0\xff456789abcdef";
+const SALT_WORD: &str = "000aA0fF343536373839616263646566";
+
+/// What comes on standard input.
+const INPUT: &[u8] = b"standard input";
+
+/// Names and lengths of the files that are there. One is larger than what the
+/// program reads at a time, and one has the name of a flag.
+const FILES: [(&str, usize); 5] = [
+    ("empty", 0),
+    ("short", 3),
+    ("block", 192),
+    ("large", 200_000),
+    ("-b", 1),
+];
+
+fn run(run: &mut Run) -> Result<(), String> {
+    let folder = Folder::new()?;
+    let jobs = jobs(&folder.0);
+    check_all(&jobs)?;
+    run.count(jobs.len());
+    Ok(())
+}
+
+/// The line of a digest.
+pub fn line(bits: u64, salt: &[u8], message: &[u8], name: &str) -> String {
+    let salt = salt.try_into().expect("sixteen bytes");
+    let digest = digest::digest(bits, &salt, message);
+    format!("{}  {name}\n", hex::encode(&digest))
+}
+
+fn jobs(folder: &Path) -> Vec<Job> {
+    let job = |words: &[&str], output: String, said: &str| Job {
+        name: NAME,
+        words: words.iter().map(|&word| word.into()).collect(),
+        folder: Some(folder.into()),
+        pieces: at_once(INPUT.into()),
+        output,
+        said: said.into(),
+    };
+    let good = |words: &[&str], bits, salt: [u8; 16], names: &[&str]| {
+        let lines = names
+            .iter()
+            .map(|name| line(bits, &salt, &content(name), name));
+        job(words, lines.collect(), "")
+    };
+    let usage = |words: &[&str]| job(words, String::new(), USAGE);
+    let bad_bits = |bits: &str| {
+        let said = format!("echosum: bad bits {bits}\n");
+        job(&["-b", bits, "short"], String::new(), &said)
+    };
+    let missing = "echosum: missing: No such file or directory\n";
+    vec![
+        good(&[], 256, ZEROS, &["-"]),
+        good(&["-"], 256, ZEROS, &["-"]),
+        good(
+            &["empty", "short", "block", "large"],
+            256,
+            ZEROS,
+            &["empty", "short", "block", "large"],
+        ),
+        good(&["-b", "512", "short", "-"], 512, ZEROS, &["short", "-"]),
+        good(&["-b", "0264", "short"], 264, ZEROS, &["short"]),
+        good(&["-s", SALT_WORD, "block"], 256, SALT, &["block"]),
+        good(&["-s", SALT_WORD, "-b", "128"], 128, SALT, &["-"]),
+        good(
+            &["short", "-b", "224", "empty"],
+            224,
+            ZEROS,
+            &["short", "empty"],
+        ),
+        good(&["-b", "512", "-b", "384", "short"], 384, ZEROS, &["short"]),
+        good(&["--", "-b", "short"], 256, ZEROS, &["-b", "short"]),
+        good(&["-b", "512", "--", "-b"], 512, ZEROS, &["-b"]),
+        job(
+            &["empty", "missing", "short"],
+            line(256, &ZEROS, b"", "empty") + &line(256, &ZEROS, &content("short"), "short"),
+            missing,
+        ),
+        job(&["."], String::new(), "echosum: .: Is a directory\n"),
+        job(
+            &[""],
+            String::new(),
+            "echosum: : No such file or directory\n",
+        ),
+        bad_bits("130"),
+        bad_bits("0"),
+        bad_bits("120"),
+        bad_bits("520"),
+        bad_bits("1000000"),
+        usage(&["-b"]),
+        usage(&["-s"]),
+        usage(&["-b", "abc", "short"]),
+        usage(&["-b", "", "short"]),
+        usage(&["-b", "-256", "short"]),
+        usage(&["-b256", "short"]),
+        usage(&["-s", "00", "short"]),
+        usage(&["-s", &format!("{SALT_WORD}0"), "short"]),
+        usage(&["-s", &SALT_WORD.replace('F', "g"), "short"]),
+        usage(&["-x", "short"]),
+        usage(&["short", "--help"]),
+        usage(&["short", "-b"]),
+    ]
+}
+
+/// The bytes of a file by its name, or of standard input.
+fn content(name: &str) -> Vec<u8> {
+    match FILES.iter().find(|file| file.0 == name) {
+        Some(&(_, length)) => (0..length).map(|i| (i * 7 + i / 256) as u8).collect(),
+        None => INPUT.into(),
+    }
+}
+
+/// A folder of its own with the files in it, which goes when it is dropped.
+struct Folder(PathBuf);
+
+impl Folder {
+    fn new() -> Result<Folder, String> {
+        let folder = Folder(env::temp_dir().join(format!("echosum_words.{}", process::id())));
+        folder.fill().map_err(|error| error.to_string())?;
+        Ok(folder)
+    }
+
+    fn fill(&self) -> std::io::Result<()> {
+        fs::create_dir(&self.0)?;
+        for (name, _) in FILES {
+            fs::write(self.0.join(name), content(name))?;
+        }
+        Ok(())
+    }
+}
+
+impl Drop for Folder {
+    fn drop(&mut self) {
+        // What can't be removed is left to the system's own cleaning.
+        let _ = fs::remove_dir_all(&self.0);
+    }
+}
+
+#[cfg(test)]
+mod tests {
+    use super::*;
+
+    #[test]
+    fn the_line_of_a_published_digest() {
+        let published = "4496cd09d425999aefa75189ee7fd3c97362aa9e4ca898328002d20a4b519788";
+        assert_eq!(
+            line(256, &ZEROS, b"", "empty"),
+            format!("{published}  empty\n")
+        );
+    }
+
+    #[test]
+    fn the_salt_word_is_the_salt() {
+        assert_eq!(hex::decode(&SALT_WORD.to_lowercase()), SALT);
+    }
+}

@@ -27,6 +27,26 @@ pub const CONTENDERS: [Contender; 3] = [
     },
 ];
 
+/// The rounds of one block alone, by the library: most of what a digest does.
+pub const ROUNDS: Contender = Contender {
+    digest: |bits, _, out| {
+        let mut square = [out[0]; 256];
+        let count = if bits <= 256 { 8 } else { 10 };
+        let done = bahmorist::rounds(&mut square, count, 0, &SALT).is_ok();
+        out.copy_from_slice(&square[..64]);
+        done
+    },
+};
+
+/// The bytes of a block.
+pub fn block_bytes(bits: u64) -> usize {
+    if bits <= 256 {
+        192
+    } else {
+        128
+    }
+}
+
 fn put(digest: &[u8], out: &mut [u8; 64]) -> bool {
     out[..digest.len()].copy_from_slice(digest);
     true

@@ -7,7 +7,7 @@ mod contender;
 mod stack;
 mod timing;
 
-use contender::{Contender, CONTENDERS};
+use contender::{block_bytes, Contender, CONTENDERS, ROUNDS};
 use seeded::Generator;
 use std::process::ExitCode;
 
@@ -21,27 +21,22 @@ const BOUND_FROM: usize = 4096;
 
 fn main() -> ExitCode {
     let mut slow = false;
-    println!("ns for each byte, and the ratio to plain:");
+    println!("ns for each byte of the message, and the ratio to plain:");
     println!();
     println!("bits    bytes |    library      |     plain       | AES instruction");
     for bits in BITS {
         for size in SIZES {
-            let message = Generator::new(size as u64).vector(size);
-            let present: Vec<&Contender> = CONTENDERS
-                .iter()
-                .filter(|contender| contender.agrees(bits, &message))
-                .collect();
-            let times = timing::nanoseconds(&present, bits, &message);
-            let plain = times[contender::PLAIN];
-            let cells: Vec<String> = times
-                .iter()
-                .map(|time| format!("{:8.2} {:6.2} ", time / size as f64, time / plain))
-                .collect();
-            println!("{bits:4} {size:8} | {}", cells.join("| "));
-            slow |= size >= BOUND_FROM && times[contender::LIBRARY] > BOUND * plain;
+            slow |= row(bits, size);
         }
     }
     println!();
+    for bits in BITS {
+        let [time] = timing::nanoseconds(&[&ROUNDS], bits, &[])[..] else {
+            unreachable!("one time for one contender")
+        };
+        let time = time / block_bytes(bits) as f64;
+        println!("rounds of the library alone, {bits} bits: {time:.2} ns for each byte of a block");
+    }
     for bits in BITS {
         match stack::of_digest(bits, &[0; 4096]) {
             Some(bytes) => println!("stack of a digest of {bits} bits: {bytes} bytes"),
@@ -53,4 +48,21 @@ fn main() -> ExitCode {
         return ExitCode::FAILURE;
     }
     ExitCode::SUCCESS
+}
+
+/// Prints the times of all that the machine has. Whether the library is too slow.
+fn row(bits: u64, size: usize) -> bool {
+    let message = Generator::new(size as u64).vector(size);
+    let present: Vec<&Contender> = CONTENDERS
+        .iter()
+        .filter(|contender| contender.agrees(bits, &message))
+        .collect();
+    let times = timing::nanoseconds(&present, bits, &message);
+    let plain = times[contender::PLAIN];
+    let cells: Vec<String> = times
+        .iter()
+        .map(|time| format!("{:8.2} {:6.2} ", time / size as f64, time / plain))
+        .collect();
+    println!("{bits:4} {size:8} | {}", cells.join("| "));
+    size >= BOUND_FROM && times[contender::LIBRARY] > BOUND * plain
 }

@@ -4,13 +4,13 @@
 # make trials SEED=1 CASES=1000 a longer run against the second implementation, with its own seed and number of cases
 .PHONY: all test bench trials
 
-# The examples: a steering table's records and its fingerprint, and the digest of "abc" from the command line, from C and from Rust.
+# The examples: a steering table's records, its fingerprint, and the digest of "abc".
 all:
 	rt check
 	tools/library
-	tools/run list_table <crates/list_table/stdin
-	tools/run fingerprint_table <crates/fingerprint_table/stdin
-	printf abc | tools/run echosum
+	@tools/run list_table <crates/list_table/stdin
+	@tools/run fingerprint_table <crates/fingerprint_table/stdin
+	@printf abc | tools/run echosum
 
 test:
 	.ci/run

@@ -5,7 +5,8 @@
 //! both give one answer, neither has misread the paper alone.
 //!
 //! The modules other than [`checked`] take inputs that are admitted and panic
-//! on others. [`checked`] and [`table`] answer with refusal numbers instead.
+//! on others. [`checked`], [`session`] and [`table`] answer with refusal numbers
+//! instead.
 
 #![forbid(unsafe_code)]
 
@@ -18,6 +19,7 @@ pub mod field;
 pub mod hex;
 pub mod padding;
 pub mod refusal;
+pub mod session;
 pub mod square;
 pub mod substitution;
 pub mod table;

@@ -12,19 +12,21 @@ pub fn block_count(bits: u64, n: u64) -> u64 {
     (n + LEAST - 1) / family::of_bits(bits).block as u64 + 1
 }
 
-/// The padded message: byte 80, the fewest zero bytes that fill the last block,
-/// the digest length and the message length, both in bits and with the least
-/// significant byte first.
+/// The padded message.
 pub fn pad(bits: u64, message: &[u8]) -> Vec<u8> {
-    let n = message.len() as u64;
-    let size = block_count(bits, n) as usize * family::of_bits(bits).block;
-    let mut padded = Vec::with_capacity(size);
-    padded.extend_from_slice(message);
-    padded.push(0x80);
-    padded.resize(size - 18, 0);
-    padded.extend_from_slice(&(bits as u16).to_le_bytes());
-    padded.extend_from_slice(&(u128::from(n) * 8).to_le_bytes());
-    padded
+    [message, &padding(bits, message.len() as u64)].concat()
+}
+
+/// What follows a message of `n` bytes: byte 80, the fewest zero bytes that fill
+/// the last block, the digest length and the message length, both in bits and
+/// with the least significant byte first.
+pub fn padding(bits: u64, n: u64) -> Vec<u8> {
+    let size = block_count(bits, n) * family::of_bits(bits).block as u64 - n;
+    let mut padding = vec![0x80];
+    padding.resize(size as usize - 18, 0);
+    padding.extend_from_slice(&(bits as u16).to_le_bytes());
+    padding.extend_from_slice(&(u128::from(n) * 8).to_le_bytes());
+    padding
 }
 
 #[cfg(test)]
@@ -56,6 +58,18 @@ mod tests {
             let padded = pad(bits, b"");
             let place = padded.len() - 18;
             assert_eq!(padded[place..place + 2], written);
+        }
+    }
+
+    #[test]
+    fn behind_the_longest_message() {
+        // 2^61 - 21 bytes are 107 beyond a block's end in both families, and
+        // 2^64 - 168 bits.
+        let length = [0x58, 0xff, 0xff, 0xff, 0xff, 0xff, 0xff, 0xff];
+        for (bits, written, zeros) in [(256, [0x00, 0x01], 66), (512, [0x00, 0x02], 2)] {
+            let back = [&written[..], &length].concat();
+            let expected = joined(&[0x80], zeros, &back, 8);
+            assert_eq!(padding(bits, (1 << 61) - 21), expected);
         }
     }
 

@@ -11,6 +11,7 @@ mod echo_cases;
 mod echosum;
 mod file;
 mod known_answers;
+mod session_cases;
 mod table_cases;
 mod table_programs;
 
@@ -23,6 +24,7 @@ fn files() -> Vec<File> {
     [
         echo_cases::files(),
         digest_cases::files(),
+        session_cases::files(),
         table_programs::files(),
         table_cases::files(),
         echosum::files(),

@@ -1,0 +1,63 @@
+//! Sessions that no opening made.
+
+use plain::family;
+use plain::refusal::MESSAGE_LIMIT;
+use plain::session::Session;
+use seeded::Generator;
+
+/// Digest lengths of a family.
+pub struct Lengths {
+    /// Bytes of a block.
+    pub block: u64,
+    /// Some of them, with the shortest and the longest.
+    pub bits: [u64; 6],
+}
+
+pub const FAMILIES: [Lengths; 2] = [
+    Lengths {
+        block: 192,
+        bits: [128, 256, 224, 136, 160, 248],
+    },
+    Lengths {
+        block: 128,
+        bits: [264, 512, 384, 272, 448, 504],
+    },
+];
+
+/// The last end of a block that a message may reach.
+pub fn last_edge(block: u64) -> u64 {
+    MESSAGE_LIMIT - MESSAGE_LIMIT % block
+}
+
+/// A session with these numbers and everything else from the generator, but for
+/// the room that is not in use.
+pub fn forged(generator: &mut Generator, bits: u64, taken: u64) -> Session {
+    let family = family::of_bits(bits);
+    let mut session = Session {
+        bits,
+        salt: generator.bytes(),
+        chaining: generator.bytes(),
+        taken,
+        waiting: generator.bytes(),
+    };
+    session.chaining[family.chaining..].fill(0);
+    session.waiting[(taken % family.block as u64) as usize..].fill(0);
+    session
+}
+
+/// A session of a family, whose digest lengths come in turn.
+pub fn in_family(generator: &mut Generator, lengths: &Lengths, turn: usize, taken: u64) -> Session {
+    forged(generator, lengths.bits[turn % lengths.bits.len()], taken)
+}
+
+/// A session with something changed.
+pub fn changed(
+    generator: &mut Generator,
+    bits: u64,
+    taken: u64,
+    change: impl FnOnce(&mut Session),
+) -> Session {
+    let mut session = forged(generator, bits, taken);
+    change(&mut session);
+    session
+}

@@ -1,0 +1,290 @@
+use super::record::{RECORD, ROOM};
+use super::*;
+use plain::digest;
+use std::collections::HashSet;
+
+/// The most bytes of a message: 2^61 - 21.
+const LIMIT: u64 = 2_305_843_009_213_693_931;
+
+/// Why a record is no session, by the words of the rule.
+fn reasons(session: &Session) -> Vec<&'static str> {
+    let short = session.bits <= 256;
+    let in_use = session.taken % if short { 192 } else { 128 };
+    let waits = |place: usize| session.waiting[place] != 0 && place as u64 >= in_use;
+    let reasons = [
+        ("bits", !(16..=64).any(|bytes| 8 * bytes == session.bits)),
+        ("taken", session.taken > LIMIT),
+        ("waiting", (0..192).any(waits)),
+        ("chaining", short && session.chaining[64..] != [0; 64]),
+    ];
+    holding(reasons)
+}
+
+/// Every refusal number that applies, the lowest first, by the table of refusal
+/// numbers.
+fn refusals(case: &Case) -> Vec<u8> {
+    let Session { bits, taken, .. } = case.session;
+    let admitted = (16..=64).any(|bytes| 8 * bytes == bits);
+    let no_session = (3, !reasons(&case.session).is_empty());
+    let long = u128::from(taken) + u128::from(case.length) > u128::from(LIMIT);
+    match case.task {
+        Task::Open => holding([(1, !admitted), (2, case.length < 16)]),
+        Task::Add => holding([no_session, (4, long)]),
+        Task::Read => holding([no_session, (5, u64::from(case.length) < bits / 8)]),
+        Task::IsSession => vec![],
+    }
+}
+
+fn holding<T, const N: usize>(conditions: [(T, bool); N]) -> Vec<T> {
+    let holding = conditions.into_iter().filter(|(_, holds)| *holds);
+    holding.map(|(what, _)| what).collect()
+}
+
+/// The cases of a task that are done, in the family of a block size.
+fn done(task: Task, block: u64) -> Vec<Case> {
+    let mut cases = cases();
+    cases.retain(|case| {
+        let short = case.session.bits <= 256;
+        case.task == task && refusals(case).is_empty() && short == (block == 192)
+    });
+    cases
+}
+
+#[test]
+fn records_have_their_layout() {
+    let case = Case {
+        task: Task::Read,
+        length: 3,
+        session: Session {
+            bits: 0x0b0a_0908_0706_0504,
+            salt: [0x14; 16],
+            chaining: [0x15; 128],
+            taken: 0x1312_1110_0f0e_0d0c,
+            waiting: [0x16; 192],
+        },
+        room: [0x17; ROOM],
+    };
+    let numbers: Vec<u8> = (2..0x14).collect();
+    let Session {
+        salt,
+        chaining,
+        waiting,
+        ..
+    } = &case.session;
+    let parts = [&numbers[..], salt, chaining, waiting, &case.room];
+    assert_eq!(case.record(), parts.concat());
+    assert_eq!(case.record().len(), RECORD);
+}
+
+#[test]
+fn lines_have_their_fields() {
+    let mut session = Session {
+        bits: 256,
+        taken: 2,
+        ..BLANK
+    };
+    session.waiting[1] = 0x0f;
+    session.salt[15] = 0xa0;
+    let case = |task, length| Case {
+        task,
+        length,
+        session: session.clone(),
+        room: [0xee; ROOM],
+    };
+    let zeros = "0".repeat(380);
+    let salt = format!("{}a0", &zeros[..30]);
+    let kept = format!("256 2 {salt} {} 000f{zeros}", &zeros[..256]);
+    assert_eq!(case(Task::Add, 0).line(), format!("0 {kept}\n"));
+    assert_eq!(case(Task::Read, 0).line(), format!("5 {kept} \n"));
+    assert_eq!(case(Task::Read, 2).line(), format!("5 {kept} eeee\n"));
+    let line = case(Task::Read, 33).line();
+    assert!(line.starts_with(&format!("0 {kept} ")) && line.ends_with("ee\n"));
+    assert_eq!(line.len(), 2 + kept.len() + 1 + 66 + 1);
+    assert_eq!(case(Task::IsSession, 0).line(), "yes\n");
+    let opened = case(Task::Open, 200).line();
+    assert!(opened.starts_with(&format!("0 256 0 {salt} 0001")));
+}
+
+#[test]
+fn refusals_are_those_of_the_table() {
+    let mut counts = [0; 6];
+    for case in cases() {
+        let number = refusals(&case).first().copied().unwrap_or(0);
+        assert_eq!(case.answer().number, number);
+        if case.task == Task::IsSession {
+            let yes = reasons(&case.session).is_empty();
+            assert_eq!(case.line(), if yes { "yes\n" } else { "no\n" });
+        } else {
+            assert!(case.line().starts_with(&format!("{number} ")));
+            counts[number as usize] += 1;
+        }
+    }
+    // Done are, in each family, 5 from an opening, 2 to the limit, 15 readings
+    // and 16 pieces, and one opening more. The 23 records that are no session are
+    // refused once each, and in 10 pairs.
+    assert_eq!(counts, [2 * (5 + 2 + 15 + 16) + 1, 3, 2, 23 + 10, 6, 6]);
+}
+
+#[test]
+fn a_refusal_hands_everything_back_as_it_came() {
+    for case in cases() {
+        let answer = case.answer();
+        if answer.number != 0 && case.task == Task::Open {
+            assert_eq!(answer.session, BLANK);
+        } else if answer.number != 0 {
+            assert_eq!(answer.session, case.session);
+        }
+        if answer.number != 0 || case.task != Task::Read {
+            assert_eq!(answer.room, case.room);
+        }
+    }
+}
+
+#[test]
+fn a_reading_changes_its_room_and_nothing_else() {
+    for case in [done(Task::Read, 192), done(Task::Read, 128)].concat() {
+        let answer = case.answer();
+        let size = case.session.bits as usize / 8;
+        assert_eq!(answer.session, case.session);
+        assert_ne!(answer.room[..size], case.room[..size]);
+        assert_eq!(answer.room[size..], case.room[size..]);
+    }
+}
+
+#[test]
+fn each_record_is_no_session_for_one_reason() {
+    let records = no_sessions::records(&mut Generator::new(5));
+    let mut counts = [0; 4];
+    for session in records {
+        let reasons = reasons(&session);
+        assert_eq!(reasons.len(), 1);
+        let names = ["bits", "taken", "waiting", "chaining"];
+        let which = names.iter().position(|name| *name == reasons[0]);
+        counts[which.expect("one of the four")] += 1;
+    }
+    // The blank session is one of those with a wrong digest length.
+    assert_eq!(counts, [1 + 8, 4, 8, 2]);
+}
+
+#[test]
+fn every_pair_of_refusals_is_met() {
+    let pairs: Vec<Vec<u8>> = refused::cases(&mut Generator::new(5))
+        .iter()
+        .map(refusals)
+        .filter(|numbers| numbers.len() > 1)
+        .collect();
+    for (pair, count) in [([1, 2], 1), ([3, 4], 5), ([3, 5], 5)] {
+        let met = pairs.iter().filter(|numbers| **numbers == pair);
+        assert_eq!(met.count(), count);
+    }
+    assert_eq!(pairs.len(), 11);
+}
+
+#[test]
+fn both_sides_of_the_limit_are_met() {
+    let over = |case: &Case| case.session.taken + u64::from(case.length) - LIMIT;
+    let refused = cases();
+    let refused = refused.iter().filter(|case| refusals(case) == [4]);
+    let over: Vec<u64> = refused.map(over).collect();
+    assert_eq!(over, [1, 1, 1, 255, 1, 1]);
+    for b in [192, 128] {
+        let cases = done(Task::Add, b);
+        for empty in [true, false] {
+            assert!(cases.iter().any(|case| {
+                let total = case.session.taken + u64::from(case.length);
+                total == LIMIT && (case.length == 0) == empty
+            }));
+        }
+    }
+}
+
+#[test]
+fn pieces_end_on_every_side_of_a_block() {
+    for b in [192, 128] {
+        // Blocks that a piece fills, and bytes of it that wait then.
+        let mut ends = HashSet::new();
+        for case in done(Task::Add, b) {
+            let in_use = case.session.taken % b;
+            let bytes = in_use + u64::from(case.length);
+            let answer = case.answer().session;
+            assert_eq!(
+                case.session.chaining == answer.chaining,
+                bytes / b == 0,
+                "a block that is full is compressed at once"
+            );
+            if case.length == 0 {
+                assert_eq!(case.session, answer);
+            }
+            ends.insert((bytes / b, (bytes % b).min(1), in_use == 0));
+        }
+        for end in [(0, 1), (1, 0), (1, 1), (2, 0), (2, 1)] {
+            assert!(ends.contains(&(end.0, end.1, false)));
+        }
+        for end in [(0, 0), (0, 1), (1, 0), (1, 1)] {
+            assert!(ends.contains(&(end.0, end.1, true)));
+        }
+    }
+}
+
+#[test]
+fn readings_meet_every_row_of_counters() {
+    for b in [192, 128] {
+        let cases = done(Task::Read, b);
+        let met = |taken: u64| cases.iter().any(|case| case.session.taken == taken);
+        for begin in [0, LIMIT - 107 - b] {
+            for used in [b - 19, b - 18, b - 1, b] {
+                assert!(met(begin + used));
+            }
+        }
+        assert!(met(0) && met(b + 1) && met(LIMIT));
+        let more = cases
+            .iter()
+            .map(|case| u64::from(case.length) - case.session.bits / 8);
+        let more: HashSet<u64> = more.collect();
+        assert_eq!(more, HashSet::from([0, 1, 7, 64]));
+        let bits: HashSet<u64> = cases.iter().map(|case| case.session.bits).collect();
+        assert_eq!(bits.len(), 6);
+    }
+}
+
+#[test]
+fn from_an_opening_the_readings_are_digests() {
+    for lengths in FAMILIES {
+        let cases = from_an_opening(&mut Generator::new(5), &lengths);
+        let (bits, salt) = (lengths.bits[4], cases[0].session.salt);
+        let mut message = Vec::new();
+        for pair in cases[1..].chunks(2) {
+            message.extend(&pair[0].room[..usize::from(pair[0].length)]);
+            let expected = digest::digest(bits, &salt, &message);
+            assert_eq!(pair[1].answer().room[..expected.len()], expected);
+        }
+        assert_eq!(message.len() as u64, lengths.block + 22);
+    }
+}
+
+#[test]
+fn a_case_follows_on_the_session_before_it() {
+    for lengths in FAMILIES {
+        let mut generator = Generator::new(5);
+        for cases in [
+            from_an_opening(&mut generator, &lengths),
+            to_the_limit(&mut generator, &lengths),
+        ] {
+            for pair in cases.windows(2) {
+                assert_eq!(pair[1].session, pair[0].answer().session);
+            }
+        }
+    }
+}
+
+#[test]
+fn the_files_hold_every_case() {
+    let count = cases().len();
+    let files = files();
+    assert_eq!(files[0].bytes.len(), count * RECORD);
+    assert_eq!(
+        files[1].bytes.iter().filter(|b| **b == b'\n').count(),
+        count
+    );
+    assert!(files[0].bytes.len() + files[1].bytes.len() < 200_000);
+}

@@ -4,7 +4,7 @@
 //!
 //! Three numbers never come up here. 3 is about sessions and 11 about layers at
 //! odds, and neither has a way in through the C face. 4 would need a message
-//! that no memory holds.
+//! that no memory holds. The program `session_cases` is run on 3 and 4.
 
 use crate::case::{Case, Routine};
 

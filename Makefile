@@ -17,7 +17,7 @@ test:
 
 bench:
 	tools/library
-	cargo run --quiet --release --offline --manifest-path rust/Cargo.toml -p bench
+	cargo run --quiet --profile measured --offline --manifest-path rust/Cargo.toml -p bench
 
 SEED = 1
 CASES = 1000

@@ -1,5 +1,6 @@
 -- A refusal writes to no buffer and hands the session back as it came: wherever a routine answers a number other than 0, what it leaves is
--- what was lent, and the session is the one given. A refused opening hands the blank session out, which is no session. Assumes nothing.
+-- what was lent, and the session is the one given; reading hands it back in any case (`reading-changes-nothing` in TheDigest.antt). A refused
+-- opening hands the blank session out, which is no session. Assumes nothing.
 use mathlib.Core.Path.{_≡_, refl}
 use mathlib.Core.Bool.{false}
 use mathlib.Core.List.{List}
@@ -7,7 +8,7 @@ use Prim.Native.Nat.{ℕ, suc}
 use lib.ListN.{length}
 use Rattle.echo.specs.declared.session.Session.{Session}
 use Rattle.echo.specs.Routines.{compressLeaves, compressRefusal, roundsBackLeave, roundsLeave, roundsRefusal}
-use Rattle.echo.specs.Session.{addAnswer, addRefusal, admitted, blank, digestLeaves, digestRefusal, isSession, openAnswer, openRefusal, readAnswer, readLeaves, readRefusal}
+use Rattle.echo.specs.Session.{addAnswer, addRefusal, admitted, blank, digestLeaves, digestRefusal, isSession, openAnswer, openRefusal, readLeaves, readRefusal}
 
 -- the refusal number is k + 1
 module _ (k : ℕ) where
@@ -45,8 +46,3 @@ module _ (k : ℕ) where
 pub the-blank-session-is-none : isSession blank ≡ false
 unfolding isSession admitted
 the-blank-session-is-none = refl
-
--- refused or not
-pub reading-hands-the-session-back : (s : Session) (room : ℕ) → readAnswer s room .session ≡ s
-unfolding readAnswer
-reading-hands-the-session-back s room = refl

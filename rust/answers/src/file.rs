@@ -26,4 +26,10 @@ impl File {
     pub fn agrees(&self, dir: &Path) -> bool {
         fs::read(dir.join(self.path)).is_ok_and(|bytes| bytes == self.bytes)
     }
+
+    /// How many lines it has.
+    #[cfg(test)]
+    pub fn lines(&self) -> usize {
+        self.bytes.iter().filter(|&&byte| byte == b'\n').count()
+    }
 }

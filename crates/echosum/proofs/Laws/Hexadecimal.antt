@@ -1,27 +1,12 @@
--- `nibble` undoes `digit`, and a text is spelled byte by byte. Assumes nothing.
-use mathlib.Core.Path.{_≡_, _∙_, ap, refl, sym}
-use mathlib.Core.Bool.{Bool, true, false}
+-- A text is spelled byte by byte. Assumes nothing.
+use mathlib.Core.Path.{_≡_, _∙_, ap, sym}
 use mathlib.Core.List.{List, [], _∷_, _++_, append-assoc, append-nil}
-use Prim.Native.Nat.{ℕ, suc, _+_, _*_, _/_, _%_, _<_, _≤_}
+use Prim.Native.Nat.{ℕ, suc, _+_, _*_, _/_, _%_, _<_}
 use native.Mathlib.Numerals.{add-one}
 use native.Mathlib.Omega.{arith}
-use borrow.Author.Tests.{le-leb, le-ltb, lt-leb, ltb-false, ltb-true}
-use lib.Dec.{ltb}
 use lib.ListN.{drop, getD, length, length-set, set, take}
 use lib.Seq.{drop-cons, drop-length, take-suc-set}
-use Rattle.echosum.specs.Hexadecimal.{digitOf, nibbleOf, spelled}
-
-pub nibble-digit : (v : ℕ) → v < 16 → nibbleOf (digitOf v) ≡ v
-unfolding nibbleOf
-nibble-digit v h = by (ltb v 10) refl
-  where
-    by : (t : Bool) → ltb v 10 ≡ t → nibbleOf (digitOf v) ≡ v
-    by true e =
-        let l : v < 10 = ltb-true v 10 e in
-        simp (e, le-ltb (48 + v) 48 (omega arith), le-leb (48 + v) 57 (omega arith)) (omega arith)
-    by false e =
-        let g : 10 ≤ v = ltb-false v 10 e in
-        simp (e, le-ltb (87 + v) 48 (omega arith), lt-leb (87 + v) 57 (omega arith), le-ltb (87 + v) 65 (omega arith), lt-leb (87 + v) 70 (omega arith), le-ltb (87 + v) 97 (omega arith), le-leb (87 + v) 102 (omega arith)) (omega arith)
+use Rattle.echosum.specs.Hexadecimal.{digitOf, spelled}
 
 stored-two : (text : List ℕ) (n a b : ℕ) → n + 1 < length text → take (suc (n + 1)) (set (set text n a) (n + 1) b) ≡ take n text ++ (a ∷ b ∷ [])
 stored-two text n a b room =

@@ -127,8 +127,5 @@ fn the_files_hold_every_case() {
     let count = cases().len();
     let files = files();
     assert_eq!(files[0].bytes.len(), count * RECORD);
-    assert_eq!(
-        files[1].bytes.iter().filter(|b| **b == b'\n').count(),
-        count
-    );
+    assert_eq!(files[1].lines(), count);
 }

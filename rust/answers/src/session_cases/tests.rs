@@ -282,9 +282,5 @@ fn the_files_hold_every_case() {
     let count = cases().len();
     let files = files();
     assert_eq!(files[0].bytes.len(), count * RECORD);
-    assert_eq!(
-        files[1].bytes.iter().filter(|b| **b == b'\n').count(),
-        count
-    );
-    assert!(files[0].bytes.len() + files[1].bytes.len() < 200_000);
+    assert_eq!(files[1].lines(), count);
 }

@@ -208,7 +208,6 @@ fn random_cases_are_done_and_refused() {
 fn the_files_hold_every_case() {
     let files = files();
     let mut rest = &files[0].bytes[..];
-    assert!(rest.len() < 150_000);
     let mut count = 0;
     while !rest.is_empty() {
         let length = u16::from_le_bytes([rest[6], rest[7]]);
@@ -216,6 +215,5 @@ fn the_files_hold_every_case() {
         count += 1;
     }
     assert_eq!(count, cases().len());
-    let ends = files[1].bytes.iter().filter(|byte| **byte == b'\n');
-    assert_eq!(ends.count(), count);
+    assert_eq!(files[1].lines(), count);
 }

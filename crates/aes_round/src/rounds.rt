@@ -1,5 +1,7 @@
 // One round of the AES on a word of sixteen bytes, column by column, and its way back.
+ghost use mathlib.Core.List.{[], _∷_};
 ghost use mathlib.Core.Path.{_≡_};
+ghost use Prim.Native.Nat.{_+_, _*_, _<_};
 ghost use lib.ListN.{getD};
 ghost use Rattle.aes_round.specs.Bytes.{tab};
 ghost use Rattle.aes_round.specs.Mixing.{backward, forward};
@@ -43,13 +45,18 @@ fn shift_rows_back(s: [u8; 16]) -> [u8; 16]
     r
 }
 
-fn mix_columns(s: [u8; 16]) -> [u8; 16]
-    ensures { λ r. ⌜ r ≡ mixColumns 1 forward s ⌝ }
+// Column j of a word.
+fn column(s: [u8; 16], j: usize) -> [u8; 4]
+    requires { ⌜ j < 4 ⌝ }
+    ensures { λ r. ⌜ r ≡ getD s (4 * j) 0 ∷ getD s (4 * j + 1) 0 ∷ getD s (4 * j + 2) 0 ∷ getD s (4 * j + 3) 0 ∷ [] ⌝ }
 {
-    let a = mix([s[0], s[1], s[2], s[3]]);
-    let b = mix([s[4], s[5], s[6], s[7]]);
-    let c = mix([s[8], s[9], s[10], s[11]]);
-    let d = mix([s[12], s[13], s[14], s[15]]);
+    [s[4 * j], s[4 * j + 1], s[4 * j + 2], s[4 * j + 3]]
+}
+
+// The word of four columns.
+fn word_of(a: [u8; 4], b: [u8; 4], c: [u8; 4], d: [u8; 4]) -> [u8; 16]
+    ensures { λ r. ⌜ r ≡ getD a 0 0 ∷ getD a 1 0 ∷ getD a 2 0 ∷ getD a 3 0 ∷ getD b 0 0 ∷ getD b 1 0 ∷ getD b 2 0 ∷ getD b 3 0 ∷ getD c 0 0 ∷ getD c 1 0 ∷ getD c 2 0 ∷ getD c 3 0 ∷ getD d 0 0 ∷ getD d 1 0 ∷ getD d 2 0 ∷ getD d 3 0 ∷ [] ⌝ }
+{
     [
         a[0],
         a[1],
@@ -70,31 +77,26 @@ fn mix_columns(s: [u8; 16]) -> [u8; 16]
     ]
 }
 
+fn mix_columns(s: [u8; 16]) -> [u8; 16]
+    ensures { λ r. ⌜ r ≡ mixColumns 1 forward s ⌝ }
+{
+    word_of(
+        mix(column(s, 0)),
+        mix(column(s, 1)),
+        mix(column(s, 2)),
+        mix(column(s, 3)),
+    )
+}
+
 fn mix_columns_back(s: [u8; 16]) -> [u8; 16]
     ensures { λ r. ⌜ r ≡ mixColumns 1 backward s ⌝ }
 {
-    let a = mix_back([s[0], s[1], s[2], s[3]]);
-    let b = mix_back([s[4], s[5], s[6], s[7]]);
-    let c = mix_back([s[8], s[9], s[10], s[11]]);
-    let d = mix_back([s[12], s[13], s[14], s[15]]);
-    [
-        a[0],
-        a[1],
-        a[2],
-        a[3],
-        b[0],
-        b[1],
-        b[2],
-        b[3],
-        c[0],
-        c[1],
-        c[2],
-        c[3],
-        d[0],
-        d[1],
-        d[2],
-        d[3],
-    ]
+    word_of(
+        mix_back(column(s, 0)),
+        mix_back(column(s, 1)),
+        mix_back(column(s, 2)),
+        mix_back(column(s, 3)),
+    )
 }
 
 fn add_round_key(s: [u8; 16], k: [u8; 16]) -> [u8; 16]

@@ -1,5 +1,5 @@
--- No second answer meets a public routine's contract: two results that both meet it are equal. None of these
--- routines has memory lent to it. `Post` is the routine's contract as it stands in src/, of the arguments a, the result r and the parameters at exit s. Assumes nothing.
+-- No second answer meets a public routine's contract: two results that both meet it are equal. None of these routines has memory lent to it.
+-- `Post` is the routine's contract as it stands in src/, of the arguments a, the result r and the parameters at exit s. Assumes nothing.
 use mathlib.Core.Path.{_≡_, sym, _∙_}
 use Rattle.aes_round.proofs.field.double.Reads as double
 use Rattle.aes_round.proofs.field.times.Reads as times

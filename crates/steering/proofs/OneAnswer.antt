@@ -1,5 +1,6 @@
 -- No second answer meets a public routine's contract: two results, and two states of the memory lent for writing, that both meet it are
--- equal. `Post` is the routine's contract as it stands in src/, of the arguments a, the result r and the parameters at exit s. Assumes nothing.
+-- equal. `Post` is the routine's contract as it stands in src/, of the arguments a, the result r and the parameters at exit s. Assumes
+-- nothing.
 use mathlib.Core.Path.{_≡_, sym, _∙_}
 use denote.Ref.{now}
 use Rattle.steering.proofs.reading.read_at.Reads as read_at

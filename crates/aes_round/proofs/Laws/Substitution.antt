@@ -1,9 +1,9 @@
 -- The substitution: its tables, its bytes, and that it and its way back undo each other. Assumes nothing.
 use mathlib.Core.Path.{_≡_, refl, sym, ap, _∙_}
+use mathlib.Core.Bool.{Bool}
 use mathlib.Core.List.{List}
 use Prim.Native.Nat.{ℕ, zero, suc, _<_, min}
 use native.Mathlib.Omega.{arith}
-use mathlib.Core.Bool.{Bool}
 use lib.Dec.{T, eqb, eqb→eq, lit<, ltb, ltb→lt}
 use lib.ListN.{getD}
 use Rattle.aes_round.specs.Bytes.{xor}

@@ -46,3 +46,8 @@ subByteBack x = inverse (affineBack x)
 -- t holds f of each byte, at the byte's own place
 unfoldable pub Table : (ℕ → ℕ) → List ℕ → Type 0
 Table f t = (x : ℕ) → x < 256 → getD t x 0 ≡ f x
+
+-- each of two tables undoes the other
+pub record Undo (t u : List ℕ) : Type 0 where
+  pub forth : (x : ℕ) → x < 256 → getD u (getD t x 0) 0 ≡ x
+  pub back : (x : ℕ) → x < 256 → getD t (getD u x 0) 0 ≡ x

@@ -12,6 +12,7 @@ mod rounds;
 mod sub_back_table;
 mod sub_table;
 mod substitution;
+mod tables;
 
 pub use field::double;
 pub use field::times;

@@ -9,8 +9,8 @@ ghost use Rattle.aes_round.specs.Rounds.{addRoundKey, aesRound, aesRound
 ghost use Rattle.aes_round.specs.Substitution.{Table, subByte, subByteBack};
 use super::mixing::mix;
 use super::mixing::mix_back;
-use super::sub_back_table::sub_back_table;
-use super::sub_table::sub_table;
+use super::tables::sub_back_table;
+use super::tables::sub_table;
 
 // Each byte looked up in a lent table.
 fn look_up(table: &[u8; 256], s: [u8; 16]) -> [u8; 16]

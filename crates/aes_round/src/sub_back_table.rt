@@ -1,8 +1,7 @@
 // The inverse substitution of FIPS 197 as a table: entry x is what becomes of the byte x.
 // Each mention of a constant array builds it on the stack, so a caller takes the table once for a word and lends it.
-ghost use Rattle.aes_round.specs.Substitution.{Table, subByteBack};
 
-const SUB_BACK: [u8; 256] = [
+pub(crate) const SUB_BACK: [u8; 256] = [
     0x52,
     0x09,
     0x6a,
@@ -260,9 +259,3 @@ const SUB_BACK: [u8; 256] = [
     0x0c,
     0x7d,
 ];
-
-pub(crate) fn sub_back_table() -> [u8; 256]
-    ensures { λ r. ⌜ Table subByteBack r ⌝ }
-{
-    SUB_BACK
-}

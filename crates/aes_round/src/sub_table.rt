@@ -1,8 +1,7 @@
 // The substitution of FIPS 197 as a table: entry x is what becomes of the byte x.
 // Each mention of a constant array builds it on the stack, so a caller takes the table once for a word and lends it.
-ghost use Rattle.aes_round.specs.Substitution.{Table, subByte};
 
-const SUB: [u8; 256] = [
+pub(crate) const SUB: [u8; 256] = [
     0x63,
     0x7c,
     0x77,
@@ -260,9 +259,3 @@ const SUB: [u8; 256] = [
     0xbb,
     0x16,
 ];
-
-pub(crate) fn sub_table() -> [u8; 256]
-    ensures { λ r. ⌜ Table subByte r ⌝ }
-{
-    SUB
-}

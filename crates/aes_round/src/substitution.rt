@@ -1,8 +1,8 @@
 // The substitution of one byte.
 ghost use mathlib.Core.Path.{_≡_};
 ghost use Rattle.aes_round.specs.Substitution.{subByte, subByteBack};
-use super::sub_back_table::sub_back_table;
-use super::sub_table::sub_table;
+use super::tables::sub_back_table;
+use super::tables::sub_table;
 
 pub fn substitute(x: u8) -> u8
     ensures { λ r. ⌜ r ≡ subByte x ⌝ }

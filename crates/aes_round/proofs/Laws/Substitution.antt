@@ -8,7 +8,7 @@ use lib.Dec.{T, eqb, eqb→eq, lit<, ltb, ltb→lt}
 use lib.ListN.{getD}
 use Rattle.aes_round.specs.Bytes.{xor}
 use Rattle.aes_round.specs.Field.{mul}
-use Rattle.aes_round.specs.Substitution.{Table, affine, affineBack, inverse, squares, subByte, subByteBack}
+use Rattle.aes_round.specs.Substitution.{Table, Undo, affine, affineBack, inverse, squares, subByte, subByteBack}
 use Rattle.aes_round.proofs.Laws.Every.{agree, below, both, both-left, both-right, every}
 use Rattle.aes_round.proofs.Laws.Field.{mul-assoc, mul-comm, mul-lt, mul-one-l, mul-zero-l}
 
@@ -129,7 +129,7 @@ pub sub-back-undone : (x : ℕ) → x < 256 → subByte (subByteBack x) ≡ x
 unfolding subByte subByteBack
 sub-back-undone x h = ap affine (inverse-twice (affineBack x) (affine-back-lt x h)) ∙ affine-back-undone x h
 
--- ---- the two tables: each follows its rule where one test over its 256 entries passes
+-- ---- the two tables: the first follows its rule where one test over its 256 entries passes
 
 pub sub-table-is : (t : List ℕ) → T (every (λ x. ltb (getD t x 0) 256) 256) → T (every (λ x. IsInverse x (affineBack (getD t x 0))) 256) → Table subByte t
 unfolding Table subByte
@@ -137,7 +137,18 @@ sub-table-is t bytes inverses x h =
     sym (affine-back-undone (getD t x 0) (ltb→lt (getD t x 0) 256 (below (λ x. ltb (getD t x 0) 256) 256 bytes x h)))
     ∙ ap affine (inverse-only x (affineBack (getD t x 0)) h (below (λ x. IsInverse x (affineBack (getD t x 0))) 256 inverses x h))
 
-pub sub-back-table-is : (t : List ℕ) → T (every (λ x. IsInverse (affineBack x) (getD t x 0)) 256) → Table subByteBack t
-unfolding Table subByteBack
-sub-back-table-is t test x h =
-    inverse-only (affineBack x) (getD t x 0) (affine-back-lt x h) (below (λ x. IsInverse (affineBack x) (getD t x 0)) 256 test x h)
+-- two tables undo each other where one test over their 256 entries passes
+abbrev pub Undone : List ℕ → List ℕ → ℕ → Bool
+Undone t u x = eqb (getD u (getD t x 0) 0) x
+
+pub undo-is : (t u : List ℕ) → T (every (λ x. both (Undone t u x) (Undone u t x)) 256) → Undo t u
+undo-is t u test =
+    let passes = below (λ x. both (Undone t u x) (Undone u t x)) 256 test in
+    record { forth = λ x h. eqb→eq _ x (both-left (Undone t u x) (Undone u t x) (passes x h)); back = λ x h. eqb→eq _ x (both-right (Undone t u x) (Undone u t x) (passes x h)) }
+
+-- and then the second follows the rule back where the first follows its rule
+pub back-table-is : (t u : List ℕ) → Table subByte t → Undo t u → Table subByteBack u
+unfolding Table
+back-table-is t u rule undo x h =
+    let y = subByteBack x in
+    sym (ap (λ (z : ℕ). getD u z 0) (rule y (sub-back-lt x h) ∙ sub-back-undone x h)) ∙ undo .forth y (sub-back-lt x h)

@@ -21,7 +21,7 @@ use Rattle.echo.specs.Placed.{Placed}
 use Rattle.echo.specs.Session.{allZero, compressed, finalChaining, limit, made}
 use Rattle.echo.specs.Square.{keysFrom}
 use Rattle.echo.proofs.Laws.Counting.{div-on, mod-on}
-use Rattle.echo.proofs.Laws.Families.{sizes}
+use Rattle.echo.proofs.Laws.Families.{block-pos, sizes}
 use Rattle.echo.proofs.Laws.Joined.{first-part, second-part}
 use Rattle.echo.proofs.Laws.Sessions.{both}
 
@@ -218,7 +218,7 @@ unfolding compress bigFinal
 taken-in h salt v k m = take-at _ (drop (chainingSize h) v) (chainingSize h) (length-xor (chainingSize h) _ _)
 
 module _ (h n : ℕ) (salt v w : List ℕ) (lw : length w ≡ 192) (z : allZero (drop (n % blockSize h) w) ≡ true) where
-  pub final-one : n % blockSize h + 19 ≤ blockSize h
+  final-one : n % blockSize h + 19 ≤ blockSize h
       → take (chainingSize h) (compressed h salt v (either (eqb (n % blockSize h) 0) 0 (8 * n)) (take (blockSize h - 18) (set w (n % blockSize h) 0x80) ++ lengthsOf h n)) ≡ finalChaining (made h salt v n w)
   unfolding finalChaining iterate
   final-one k =
@@ -229,7 +229,7 @@ module _ (h n : ℕ) (salt v w : List ℕ) (lw : length w ≡ 192) (z : allZero 
       ∙ ap (iterate (chainingSize h) (roundCount (chainingSize h)) salt (take (chainingSize h) v) (block (blockSize h) (take (n % blockSize h) w ++ padding (blockSize h) h n)) (λ i. counterAt (blockSize h) n (n / blockSize h + i)))
       (sym (one-block (blockSize h) n (S .block-least) k))
 
-  pub final-two : blockSize h < n % blockSize h + 19 → (u : List ℕ)
+  final-two : blockSize h < n % blockSize h + 19 → (u : List ℕ)
       → u ≡ compressed h salt v (either (eqb (n % blockSize h) 0) 0 (8 * n)) (take (blockSize h) (set w (n % blockSize h) 0x80))
       → take (chainingSize h) (compressed h salt u 0 (take (blockSize h - 18) (replicate 192 0) ++ lengthsOf h n)) ≡ finalChaining (made h salt v n w)
   unfolding finalChaining iterate
@@ -247,9 +247,50 @@ module _ (h n : ℕ) (salt v w : List ℕ) (lw : length w ≡ 192) (z : allZero 
       (sym (two-blocks (blockSize h) n (S .block-least) k))
 
 -- the counter of a block that is left is low enough
-pub end-counter-fits : (u n : ℕ) → n ≤ limit → either (eqb u 0) 0 (8 * n) ≤ 2 ^ 64 - 161
+end-counter-fits : (u n : ℕ) → n ≤ limit → either (eqb u 0) 0 (8 * n) ≤ 2 ^ 64 - 161
 end-counter-fits u n h = by (eqb u 0)
   where
     by : (t : Bool) → either t 0 (8 * n) ≤ 2 ^ 64 - 161
     by true = omega arith
     by false = omega arith
+
+-- the same of the block size b and the counter k that the code has
+module _ (h n b k : ℕ) (size : b ≡ blockSize h) (counter : k ≡ either (eqb (n % b) 0) 0 (8 * n)) where
+  counter-is : k ≡ either (eqb (n % blockSize h) 0) 0 (8 * n)
+  counter-is = counter ∙ ap (λ (x : ℕ). either (eqb (n % x) 0) 0 (8 * n)) size
+
+  pub counter-fits : n ≤ limit → k ≤ 2 ^ 64 - 161
+  counter-fits m = omega (arith, counter-is, end-counter-fits (n % blockSize h) n m)
+
+  module _ (salt v w : List ℕ) (lw : length w ≡ 192) (z : allZero (drop (n % blockSize h) w) ≡ true) where
+    pub one-left : n % b + 19 ≤ b → (u : List ℕ) → u ≡ compressed h salt v k (take (blockSize h - 18) (set w (n % b) 0x80) ++ lengthsOf h n)
+        → take (chainingSize h) u ≡ finalChaining (made h salt v n w)
+    one-left fits u e =
+        ap (take (chainingSize h)) (e ∙ ap₂ (λ (x y : ℕ). compressed h salt v x (take (blockSize h - 18) (set w (n % y) 0x80) ++ lengthsOf h n)) counter-is size)
+        ∙ final-one h n salt v w lw z (subst (λ (x : ℕ). n % x + 19 ≤ x) size fits)
+
+    pub two-left : b < n % b + 19 → (u l r : List ℕ) → u ≡ compressed h salt v k (take (blockSize h) (set w (n % b) 0x80))
+        → l ≡ replicate (length (set w (n % b) 0x80)) 0 → r ≡ compressed h salt u 0 (take (blockSize h - 18) l ++ lengthsOf h n)
+        → take (chainingSize h) r ≡ finalChaining (made h salt v n w)
+    two-left over u l r first cleared second =
+        ap (take (chainingSize h)) (second ∙ ap (λ (x : List ℕ). compressed h salt u 0 (take (blockSize h - 18) x ++ lengthsOf h n)) (cleared ∙ ap (λ (x : ℕ). replicate x 0) (length-set w (n % b) 0x80 ∙ lw)))
+        ∙ final-two h n salt v w lw z (subst (λ (x : ℕ). x < n % x + 19) size over) u
+        (first ∙ ap₂ (λ (x y : ℕ). compressed h salt v x (take (blockSize h) (set w (n % y) 0x80))) counter-is size)
+
+pub some-block : (h b : ℕ) → b ≡ blockSize h → 0 < b
+some-block h b size = omega (arith, block-pos h)
+
+-- the byte behind the waiting ones is in their room
+module _ (h n b : ℕ) (size : b ≡ blockSize h) where
+  at-small : n % b < 192
+  at-small = let S = sizes h in omega (arith, mod-lt n (block-pos h), ap (λ (x : ℕ). n % x) size)
+
+  pub behind-fits : n % b + 19 < 2 ^ 64
+  behind-fits = omega (arith, at-small)
+
+  pub behind-in : (w : List ℕ) → length w ≡ 192 → n % b < length w
+  behind-in w lw = omega (arith, at-small)
+
+-- a list that is as long as another after a store
+pub length-after : (w u : List ℕ) (i x m : ℕ) → length u ≡ length (set w i x) → length w ≡ m → length u ≡ m
+length-after w u i x m e l = e ∙ length-set w i x ∙ l

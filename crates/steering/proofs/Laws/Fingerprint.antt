@@ -2,7 +2,7 @@
 use mathlib.Core.Path.{_≡_, refl, sym, ap, _∙_}
 use mathlib.Core.Bool.{Bool, true, false}
 use mathlib.Core.List.{List, [], _∷_, _++_, append-assoc, append-nil}
-use Prim.Native.Nat.{ℕ, zero, suc, _+_, _-_, _<_, _≤_}
+use Prim.Native.Nat.{ℕ, zero, suc, _+_, _-_, _^_, _<_, _≤_}
 use native.Mathlib.Omega.{arith}
 use borrow.Author.Tests.{eq-eqb, eqb-false, eqb-true, le-ltb, lt-ltb, ltb-false, ltb-true, ne-eqb}
 use lib.Dec.{eqb, ltb}
@@ -77,6 +77,7 @@ clear-from (suc n) t at = clear-step (readAt t at) (parseFrom n t) (numbered t a
 
 -- a session at a place: the bodies before the place are taken, and those behind it are left
 pub record Walked (salt t : List ℕ) (at : ℕ) (s : Session) : Type 0 where
+  pub bytes : AreBytes t
   pub fuel : ℕ
   pub done : List ℕ
   pub rest : List Record
@@ -87,9 +88,9 @@ pub record Walked (salt t : List ℕ) (at : ℕ) (s : Session) : Type 0 where
   pub few : length done ≤ at
 
 -- an addition that isn't refused, and the walk behind it
-pub record Stepped (salt t : List ℕ) (next : ℕ) (answer : Answer) : Type 0 where
-  pub taken : answer .refusal ≡ 0
-  pub walked : Walked salt t next (answer .session)
+record Stepped (salt t : List ℕ) (next : ℕ) (answer : Answer) : Type 0 where
+  taken : answer .refusal ≡ 0
+  walked : Walked salt t next (answer .session)
 
 record Unrolled (t : List ℕ) (x : Reading) (rest : List Record) : Type 0 where
   fuel : ℕ
@@ -101,78 +102,112 @@ unroll t at zero x rest e p = let z : _≡_ {A = ℕ} 0 1 = cc in absurd (omega 
 unroll t at (suc n) x rest e p = record { fuel = n; goes = sym (parse-step t at n x e) ∙ p }
 
 module _ (salt t : List ℕ) (b : AreBytes t) where
-  pub walk-start : length salt ≡ 16 → refusalOf (parse t) ≡ 0 → (s : Session) → s ≡ openAnswer 256 salt .session → Walked salt t 0 s
-  walk-start l z s e = by (parse t) refl (clear-from (suc (length t)) t 0) z
+  pub walk-start : length salt ≡ 16 → refusalOf (parse t) ≡ 0 → (a : Answer) → a ≡ openAnswer 256 salt → Walked salt t 0 (a .session)
+  walk-start l z a e = by (parse t) refl (clear-from (suc (length t)) t 0) z
     where
-      by : (q : Parsed) → parse t ≡ q → Clear q → refusalOf q ≡ 0 → Walked salt t 0 s
+      by : (q : Parsed) → parse t ≡ q → Clear q → refusalOf q ≡ 0 → Walked salt t 0 (a .session)
       by (accepted rs) p c z = record {
+        bytes = b;
         fuel = suc (length t);
         done = [];
         rest = rs;
         parses = p;
         splits = ap bodiesOf p;
-        state = e ∙ ap (λ (a : Answer). a .session) (opens 256 salt admitted-256 l);
+        state = ap (λ (a : Answer). a .session) (e ∙ opens 256 salt admitted-256 l);
         within = omega arith;
         few = omega arith;
       }
       by (refused number place) p c z = absurd (omega arith)
 
-  module _ (at : ℕ) (s : Session) (W : Walked salt t at s) where
-    pub walk-next : (r : Record) (next : ℕ) → Found r next ≡ readAt t at → (answer : Answer) → answer ≡ addAnswer s (take (next - (at + 1)) (drop (at + 1) t)) → Stepped salt t next answer
-    walk-next r next e answer a = by (parseFrom (U .fuel) t next) refl (U .goes)
-      where
-        U : Unrolled t (Found r next) (W .rest)
-        U = unroll t at (W .fuel) (Found r next) (W .rest) e (W .parses)
+module _ (salt t : List ℕ) (at : ℕ) (s : Session) (W : Walked salt t at s) where
+  walk-next : (r : Record) (next : ℕ) → Found r next ≡ readAt t at → (answer : Answer) → answer ≡ addAnswer s (take (next - (at + 1)) (drop (at + 1) t)) → Stepped salt t next answer
+  walk-next r next e answer a = by (parseFrom (U .fuel) t next) refl (U .goes)
+    where
+      U : Unrolled t (Found r next) (W .rest)
+      U = unroll t at (W .fuel) (Found r next) (W .rest) e (W .parses)
 
-        piece : List ℕ
-        piece = take (next - (at + 1)) (drop (at + 1) t)
+      piece : List ℕ
+      piece = take (next - (at + 1)) (drop (at + 1) t)
 
-        long : length piece ≡ next - (at + 1)
-        long = let H = found t at r next e in length-take-le (next - (at + 1)) (drop (at + 1) t) (omega (arith, length-drop (at + 1) t, H .next-is, H .in-table))
+      long : length piece ≡ next - (at + 1)
+      long = let H = found t at r next e in length-take-le (next - (at + 1)) (drop (at + 1) t) (omega (arith, length-drop (at + 1) t, H .next-is, H .in-table))
 
-        takes-it : _≡_ {A = Answer} answer (record { refusal = 0; session = stateOf 256 salt (W .done ++ piece) })
-        takes-it =
-            let H = found t at r next e in
-            a ∙ ap (λ (x : Session). addAnswer x piece) (W .state) ∙ takes 256 salt admitted-256 (W .done) piece (omega (arith, long, W .few, H .next-is, H .in-table, H .not-long))
+      takes-it : _≡_ {A = Answer} answer (record { refusal = 0; session = stateOf 256 salt (W .done ++ piece) })
+      takes-it =
+          let H = found t at r next e in
+          a ∙ ap (λ (x : Session). addAnswer x piece) (W .state) ∙ takes 256 salt admitted-256 (W .done) piece (omega (arith, long, W .few, H .next-is, H .in-table, H .not-long))
 
-        by : (y : Parsed) → parseFrom (U .fuel) t next ≡ y → inFront r y ≡ accepted (W .rest) → Stepped salt t next answer
-        by (accepted more) f g =
-            let H = found t at r next e in
-            let same : W .rest ≡ r ∷ more = cc in
-            record {
-              taken = ap (λ (x : Answer). x .refusal) takes-it;
-              walked = record {
-                fuel = U .fuel;
-                done = W .done ++ piece;
-                rest = more;
-                parses = f;
-                splits =
-                    W .splits
-                    ∙ ap (λ (l : List Record). W .done ++ bodies l) same
-                    ∙ ap (λ (l : List ℕ). W .done ++ (l ++ bodies more)) (there t b at next r e .body-is)
-                    ∙ sym (append-assoc (W .done) piece (bodies more));
-                state = ap (λ (x : Answer). x .session) takes-it;
-                within = omega (arith, H .next-is, H .in-table);
-                few = omega (arith, length-append (W .done) piece, long, W .few, H .next-is);
-              };
-            }
-        by (refused number place) f g = let z : _≡_ {A = ℕ} 0 1 = cc in absurd (omega arith)
+      by : (y : Parsed) → parseFrom (U .fuel) t next ≡ y → inFront r y ≡ accepted (W .rest) → Stepped salt t next answer
+      by (accepted more) f g =
+          let H = found t at r next e in
+          let same : W .rest ≡ r ∷ more = cc in
+          record {
+            taken = ap (λ (x : Answer). x .refusal) takes-it;
+            walked = record {
+              bytes = W .bytes;
+              fuel = U .fuel;
+              done = W .done ++ piece;
+              rest = more;
+              parses = f;
+              splits =
+                  W .splits
+                  ∙ ap (λ (l : List Record). W .done ++ bodies l) same
+                  ∙ ap (λ (l : List ℕ). W .done ++ (l ++ bodies more)) (there t (W .bytes) at next r e .body-is)
+                  ∙ sym (append-assoc (W .done) piece (bodies more));
+              state = ap (λ (x : Answer). x .session) takes-it;
+              within = omega (arith, H .next-is, H .in-table);
+              few = omega (arith, length-append (W .done) piece, long, W .few, H .next-is);
+            };
+          }
+      by (refused number place) f g = let z : _≡_ {A = ℕ} 0 1 = cc in absurd (omega arith)
 
-    pub walk-end : End ≡ readAt t at → _≡_ {A = Answer} (record { refusal = 0; session = s }) (joinedAnswer salt t)
-    unfolding joinedAnswer
-    walk-end e =
-        let U = unroll t at (W .fuel) End (W .rest) e (W .parses) in
-        let g = U .goes in
-        let none : W .rest ≡ [] = cc in
-        let all : bodiesOf (parse t) ≡ W .done = W .splits ∙ ap (λ (l : List Record). W .done ++ bodies l) none ∙ append-nil (W .done) in
-        ap (λ (x : Session). record { refusal = 0; session = x }) (W .state ∙ ap (stateOf 256 salt) (sym all) ∙ sym (opened-state 256 salt (bodiesOf (parse t))))
+  walk-end : End ≡ readAt t at → _≡_ {A = Answer} (record { refusal = 0; session = s }) (joinedAnswer salt t)
+  unfolding joinedAnswer
+  walk-end e =
+      let U = unroll t at (W .fuel) End (W .rest) e (W .parses) in
+      let g = U .goes in
+      let none : W .rest ≡ [] = cc in
+      let all : bodiesOf (parse t) ≡ W .done = W .splits ∙ ap (λ (l : List Record). W .done ++ bodies l) none ∙ append-nil (W .done) in
+      ap (λ (x : Session). record { refusal = 0; session = x }) (W .state ∙ ap (stateOf 256 salt) (sym all) ∙ sym (opened-state 256 salt (bodiesOf (parse t))))
 
-    pub walk-stop : (number place : ℕ) → Refused number place ≡ readAt t at → ⊥
-    walk-stop number place e =
-        let U = unroll t at (W .fuel) (Refused number place) (W .rest) e (W .parses) in
-        let g = U .goes in
-        let z : _≡_ {A = ℕ} 0 1 = cc in
-        omega arith
+  walk-stop : (number place : ℕ) → Refused number place ≡ readAt t at → ⊥
+  walk-stop number place e =
+      let U = unroll t at (W .fuel) (Refused number place) (W .rest) e (W .parses) in
+      let g = U .goes in
+      let z : _≡_ {A = ℕ} 0 1 = cc in
+      omega arith
+
+-- ---- the same of what the code has: what it read at a place, and the answer of the session
+
+module _ (t : List ℕ) (at : ℕ) (x : Reading) (r : Record) (next : ℕ) (f : x ≡ Found r next) (e : x ≡ readAt t at) where
+  step : (at + 1 ≤ next) × (next ≤ length t) × (length t ≤ 4096)
+  step = let H = found t at r next (sym f ∙ e) in omega arith
+
+  pub start-fits : at + 1 < 2 ^ 64
+  start-fits = let S = step in omega arith
+
+  pub start-before : at + 1 ≤ next
+  start-before = let S = step in omega arith
+
+  pub next-within : next ≤ length t
+  next-within = let S = step in omega arith
+
+  pub less-left : length t - next < length t - at
+  less-left = let S = step in omega arith
+
+module _ (salt t : List ℕ) (at : ℕ) (s : Session) (W : Walked salt t at s) (x : Reading) (e : x ≡ readAt t at) where
+  module _ (r : Record) (next : ℕ) (f : x ≡ Found r next) (answer : Answer) (a : answer ≡ addAnswer s (take (next - (at + 1)) (drop (at + 1) t))) where
+    pub goes-on : Walked salt t next (answer .session)
+    goes-on = walk-next salt t at s W r next (sym f ∙ e) answer a .walked
+
+    pub goes-through : (answer .refusal ≡ 0 → ⊥) → answer ≡ joinedAnswer salt t
+    goes-through n = absurd (n (walk-next salt t at s W r next (sym f ∙ e) answer a .taken))
+
+  pub ends : x ≡ End → _≡_ {A = Answer} (record { refusal = 0; session = s }) (joinedAnswer salt t)
+  ends f = walk-end salt t at s W (sym f ∙ e)
+
+  pub no-stop : (number place : ℕ) → x ≡ Refused number place → _≡_ {A = Answer} (record { refusal = number; session = s }) (joinedAnswer salt t)
+  no-stop number place f = absurd (walk-stop salt t at s W number place (sym f ∙ e))
 
 -- ---- reading
 

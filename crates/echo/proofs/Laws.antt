@@ -13,6 +13,10 @@ pub mod Families
 pub mod Sessions
 pub mod Ends
 pub mod Stream
+pub mod Folded
+pub mod Padded
+pub mod States
+pub mod Continued
 pub mod Opened
 pub mod AtOnce
 pub mod Pieces

@@ -14,7 +14,7 @@ use Rattle.echo.specs.declared.session.Session.{Session}
 use Rattle.echo.specs.Digest.{digestOf}
 use Rattle.echo.specs.Session.{addAnswer, addBytes, addRefusal, admitted, digestLeaves, digestRefusal, isSession, limit, openAnswer, openRefusal, opened, readAnswer, readLeaves}
 use Rattle.echo.proofs.Laws.AtOnce.{well-read}
-use Rattle.echo.proofs.Laws.Opened.{add-nothing, add-pieces, opened-is-session, opened-state, stateOf}
+use Rattle.echo.proofs.Laws.Opened.{add-nothing, add-pieces, opened-is-session, opened-taken}
 
 -- the message that pieces join to
 unfoldable pub joined : List (List ℕ) → List ℕ
@@ -42,7 +42,7 @@ an-empty-piece-changes-nothing s = by (addRefusal s 0) refl
 module _ (h : ℕ) (salt : List ℕ) (a : admitted h ≡ true) (l : length salt ≡ 16) where
   -- a piece is joined to the end of the bytes added
   pub a-piece-is-joined : (m piece : List ℕ) → length (m ++ piece) ≤ limit → addAnswer (addBytes (opened h salt) m) piece .session ≡ addBytes (opened h salt) (m ++ piece)
-  unfolding addAnswer addRefusal stateOf
+  unfolding addAnswer addRefusal
   a-piece-is-joined m piece fits = rw (is, no) (add-pieces (opened h salt) m piece)
     where
       short : length m ≤ limit
@@ -52,7 +52,7 @@ module _ (h : ℕ) (salt : List ℕ) (a : admitted h ≡ true) (l : length salt 
       is = opened-is-session h salt m a short
 
       taken : addBytes (opened h salt) m .taken ≡ length m
-      taken = ap (λ (s : Session). s .taken) (opened-state h salt m)
+      taken = opened-taken h salt m
 
       no : ltb limit (addBytes (opened h salt) m .taken + length piece) ≡ false
       no = le-ltb limit (addBytes (opened h salt) m .taken + length piece) (omega (arith, taken, length-append m piece, fits))

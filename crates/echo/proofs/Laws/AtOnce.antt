@@ -12,7 +12,7 @@ use Rattle.echo.specs.declared.session.Session.{Session}
 use Rattle.echo.specs.Digest.{digestOf}
 use Rattle.echo.specs.Families.{either}
 use Rattle.echo.specs.Session.{addAnswer, addBytes, addRefusal, admitted, digestLeaves, digestRefusal, isSession, limit, openAnswer, openRefusal, opened, readAnswer, readLeaves, readRefusal, sessionDigest}
-use Rattle.echo.proofs.Laws.Opened.{add-nothing, opened-digest, opened-is-session, opened-state, stateOf}
+use Rattle.echo.proofs.Laws.Opened.{add-nothing, opened-bits, opened-digest, opened-is-session}
 
 module _ (h : ℕ) (salt message room : List ℕ) where
   -- what is left where an opening is refused, and that it is the digest's own refusal
@@ -70,11 +70,11 @@ module _ (h : ℕ) (salt message room : List ℕ) where
     -- reading the whole message's session
     pub well-read : length message ≤ limit → (s : Session) → s ≡ addBytes (opened h salt) message
         → (readAnswer s (length room) .refusal ≡ digestRefusal h (length salt) (length message) (length room)) × (readLeaves s room ≡ digestLeaves h salt message room)
-    unfolding readAnswer readLeaves readRefusal digestRefusal digestLeaves stateOf
+    unfolding readAnswer readLeaves readRefusal digestRefusal digestLeaves
     well-read m s e = by (ltb (length room) (h / 8)) refl
       where
         bits : s .bits ≡ h
-        bits = ap (λ (t : Session). t .bits) (e ∙ opened-state h salt message)
+        bits = ap (λ (t : Session). t .bits) e ∙ opened-bits h salt message
 
         yes : isSession s ≡ true
         yes = ap isSession e ∙ opened-is-session h salt message a m

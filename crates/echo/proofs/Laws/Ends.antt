@@ -158,10 +158,10 @@ module _ (b n : ℕ) (least : 128 ≤ b) where
 
 -- ---- the blocks
 
-abbrev lengthsOf : ℕ → ℕ → List ℕ
+abbrev pub lengthsOf : ℕ → ℕ → List ℕ
 lengthsOf h n = littleEndian 2 h ++ littleEndian 16 (8 * n)
 
-length-lengths : (h n : ℕ) → length (lengthsOf h n) ≡ 18
+pub length-lengths : (h n : ℕ) → length (lengthsOf h n) ≡ 18
 unfolding littleEndian
 length-lengths h n = length-append (littleEndian 2 h) (littleEndian 16 (8 * n)) ∙ ap₂ (λ (x y : ℕ). x + y) (length-tab 2 _) (length-tab 16 _)
 

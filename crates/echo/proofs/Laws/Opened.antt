@@ -1,39 +1,21 @@
 -- From an opening, a session behaves as the list of the bytes added. Assumes nothing.
-use mathlib.Core.Path.{_≡_, refl, sym, ap, _∙_}
+use mathlib.Core.Path.{_≡_, refl, ap, _∙_}
 use mathlib.Core.Bool.{true}
-use mathlib.Core.Logic.{⊎-elim}
-use mathlib.Core.List.{List, [], _∷_, _++_, append-assoc, append-nil}
-use Prim.Native.Nat.{ℕ, zero, suc, _+_, _*_, _-_, _/_, _%_, _<_, _≤_}
-use native.Mathlib.Nat.{eq-or-lt-of-le, mod-lt, mul-zero, zero-div, zero-mod}
+use mathlib.Core.List.{List, [], _∷_, _++_}
+use Prim.Native.Nat.{ℕ, _+_, _*_, _-_, _/_, _≤_}
+use native.Mathlib.Nat.{mul-zero, zero-add, zero-div, zero-mod}
 use native.Mathlib.Omega.{arith}
-use lib.ListN.{drop, length, replicate, take}
-use lib.Seq.{drop-at, take-at}
+use lib.ListN.{length, replicate, take}
 use Rattle.aes_round.proofs.Laws.Bytes.{length-tab}
 use Rattle.echo.specs.declared.session.Session.{Session}
-use Rattle.echo.specs.Compression.{compress}
 use Rattle.echo.specs.Digest.{block, blockCount, counterAt, digest, digestOf, initial, iterate}
 use Rattle.echo.specs.Families.{blockSize, chainingSize, roundCount}
 use Rattle.echo.specs.Padding.{pad, padding}
-use Rattle.echo.specs.Session.{addByte, addBytes, admitted, allZero, finalChaining, isSession, limit, made, opened, sessionDigest}
-use Rattle.echo.specs.Square.{keysFrom}
-use Rattle.echo.proofs.Laws.Families.{block-pos, sizes}
-use Rattle.echo.proofs.Laws.Sessions.{is-clear, put-full, put-more}
-use Rattle.echo.proofs.Laws.Stream.{block-rest, block-stays, blocks-left, count-full, count-more, counter-full, counter-full-block, iterate-ext, iterate-on, length-iterate, length-rest, length-snoc, nothing-waits, stored-full, stored-more}
+use Rattle.echo.specs.Session.{addByte, addBytes, admitted, isSession, limit, opened, sessionDigest}
+use Rattle.echo.proofs.Laws.States.{add-more, chained, state-final, state-is-session, stateFrom, zeros-are-zero}
+use Rattle.echo.proofs.Laws.Stream.{iterate-ext}
 
--- the chaining variable after t full blocks of a message
-unfoldable pub chained : ℕ → List ℕ → List ℕ → ℕ → List ℕ
-chained h salt m = iterate (chainingSize h) (roundCount (chainingSize h)) salt (initial (chainingSize h) h) (block (blockSize h) m) (λ i. 8 * (blockSize h * i + blockSize h))
-
--- the session of an opening to which the bytes of a message were added, by the paper's blocks
-unfoldable pub stateOf : ℕ → List ℕ → List ℕ → Session
-stateOf h salt m =
-    let b = blockSize h in
-    made h salt
-    (chained h salt m (length m / b) ++ replicate (128 - chainingSize h) 0)
-    (length m)
-    (drop (b * (length m / b)) m ++ replicate (192 - length m % b) 0)
-
--- ---- one piece after the other
+-- ---- any session: one piece after the other
 
 pub add-nothing : (s : Session) → addBytes s [] ≡ s
 unfolding addBytes
@@ -44,124 +26,56 @@ unfolding addBytes
 add-pieces s [] ys = refl
 add-pieces s (x ∷ xs) ys = add-pieces (addByte s x) xs ys
 
--- zeros behind a list
-zeros-behind : (xs : List ℕ) (n k : ℕ) → length xs ≡ n → allZero (drop n (xs ++ replicate k 0)) ≡ true
-unfolding allZero
-zeros-behind xs n k e = rw drop-at (zeros k)
-  where
-    zeros : (k : ℕ) → allZero (replicate k 0) ≡ true
-    zeros zero = refl
-    zeros (suc k) = zeros k
-
--- ---- the bytes of a message, added
+-- ---- the bytes of a message, added to an opened session
 
 module _ (h : ℕ) (salt : List ℕ) where
-  made-eq : {u v w x : List ℕ} {m n : ℕ} → u ≡ v → m ≡ n → w ≡ x → made h salt u m w ≡ made h salt v n x
-  made-eq p q r = rw (p, q, r)
+  -- the state from the initial chaining variable, behind no block
+  unused : List ℕ
+  unused = replicate (128 - chainingSize h) 0
 
-  block-fits : blockSize h ≤ 192
-  block-fits = sizes h .block-most
+  v : List ℕ
+  v = initial (chainingSize h) h
 
-  length-chained : (m : List ℕ) (t : ℕ) → length (chained h salt m t) ≡ chainingSize h
-  unfolding chained initial
-  length-chained m t = length-iterate (chainingSize h) _ salt (initial (chainingSize h) h) _ _ t (length-tab (chainingSize h) _)
+  v-long : length v ≡ chainingSize h
+  unfolding v initial
+  v-long = length-tab (chainingSize h) _
 
-  -- the chaining room: what the family uses of it, and the rest
-  room-used : (m : List ℕ) (t : ℕ) → take (chainingSize h) (chained h salt m t ++ replicate (128 - chainingSize h) 0) ≡ chained h salt m t
-  room-used m t = take-at (chained h salt m t) _ (chainingSize h) (length-chained m t)
+  opened-is : opened h salt ≡ stateFrom h salt v unused 0 []
+  unfolding v unused stateFrom chained iterate
+  opened-is = rw (zero-div (blockSize h), zero-mod (blockSize h), mul-zero (blockSize h))
 
-  room-rest : (m : List ℕ) (t : ℕ) → drop (chainingSize h) (chained h salt m t ++ replicate (128 - chainingSize h) 0) ≡ replicate (128 - chainingSize h) 0
-  room-rest m t = drop-at (chained h salt m t) _ (chainingSize h) (length-chained m t)
+  opened-state : (m : List ℕ) → addBytes (opened h salt) m ≡ stateFrom h salt v unused 0 m
+  opened-state m = ap (λ (s : Session). addBytes s m) opened-is ∙ add-more h salt v unused 0 v-long [] m
 
-  -- full blocks stay
-  chained-stays : (xs ys : List ℕ) → chained h salt (xs ++ ys) (length xs / blockSize h) ≡ chained h salt xs (length xs / blockSize h)
-  unfolding chained
-  chained-stays xs ys = iterate-ext _ _ salt _ _ _ _ _ _ (block-stays (blockSize h) (block-pos h) xs ys) (λ i l. refl)
+  counted : (m : List ℕ) → blockSize h * 0 + length m ≡ length m
+  counted m = omega (arith, mul-zero (blockSize h))
 
-  chained-more : (xs : List ℕ) (x : ℕ) → length xs % blockSize h + 1 < blockSize h
-      → chained h salt xs (length xs / blockSize h) ≡ chained h salt (xs ++ x ∷ []) (length (xs ++ x ∷ []) / blockSize h)
-  chained-more xs x l = sym (ap (chained h salt (xs ++ x ∷ [])) (count-more (blockSize h) (block-pos h) xs x l) ∙ chained-stays xs (x ∷ []))
+  pub opened-taken : (m : List ℕ) → addBytes (opened h salt) m .taken ≡ length m
+  unfolding stateFrom
+  opened-taken m = ap (λ (s : Session). s .taken) (opened-state m) ∙ counted m
 
-  chained-full : (xs : List ℕ) (x : ℕ) → length xs % blockSize h + 1 ≡ blockSize h
-      → chained h salt (xs ++ x ∷ []) (length (xs ++ x ∷ []) / blockSize h)
-      ≡ compress (chainingSize h) (roundCount (chainingSize h)) (keysFrom (8 * (length xs + 1))) salt (chained h salt xs (length xs / blockSize h))
-      (block (blockSize h) (xs ++ x ∷ []) (length xs / blockSize h))
-  unfolding chained iterate
-  chained-full xs x e = rw (count-full (blockSize h) (block-pos h) xs x e, chained-stays xs (x ∷ []), counter-full (blockSize h) (block-pos h) xs x e)
-
-  add-byte : (xs : List ℕ) (x : ℕ) → addByte (stateOf h salt xs) x ≡ stateOf h salt (xs ++ x ∷ [])
-  unfolding stateOf
-  add-byte xs x = ⊎-elim full more (eq-or-lt-of-le (mod-lt (length xs) (block-pos h)))
-    where
-      full : suc (length xs % blockSize h) ≡ blockSize h → addByte (stateOf h salt xs) x ≡ stateOf h salt (xs ++ x ∷ [])
-      full e =
-          let f : length xs % blockSize h + 1 ≡ blockSize h = omega arith in
-          sym (put-full h (length xs) x (length xs % blockSize h) salt _ _ refl (chained h salt (xs ++ x ∷ []) (length (xs ++ x ∷ []) / blockSize h) ++ replicate (128 - chainingSize h) 0) f
-          (rw (chained-full xs x f, room-used xs (length xs / blockSize h), room-rest xs (length xs / blockSize h), stored-full (blockSize h) (block-pos h) xs x f 192 block-fits)))
-          ∙ made-eq refl (sym (length-snoc xs x)) (nothing-waits (blockSize h) (block-pos h) xs x f 192)
-
-      more : suc (length xs % blockSize h) < blockSize h → addByte (stateOf h salt xs) x ≡ stateOf h salt (xs ++ x ∷ [])
-      more e =
-          let l : length xs % blockSize h + 1 < blockSize h = omega arith in
-          sym (put-more h (length xs) x (length xs % blockSize h) salt _ _ refl l)
-          ∙ made-eq (ap (λ (v : List ℕ). v ++ replicate (128 - chainingSize h) 0) (chained-more xs x l)) (sym (length-snoc xs x)) (stored-more (blockSize h) (block-pos h) xs x l 192 block-fits)
-
-  pub add-state : (xs ys : List ℕ) → addBytes (stateOf h salt xs) ys ≡ stateOf h salt (xs ++ ys)
-  unfolding addBytes
-  add-state xs [] = ap (stateOf h salt) (sym (append-nil xs))
-  add-state xs (y ∷ ys) =
-      ap (λ (s : Session). addBytes s ys) (add-byte xs y) ∙ add-state (xs ++ y ∷ []) ys ∙ ap (stateOf h salt) (append-assoc xs (y ∷ []) ys)
-
-  pub opened-state : (m : List ℕ) → addBytes (opened h salt) m ≡ stateOf h salt m
-  unfolding stateOf chained iterate
-  opened-state m = ap (λ (s : Session). addBytes s m) empty ∙ add-state [] m
-    where
-      empty : opened h salt ≡ stateOf h salt []
-      empty = rw (zero-div (blockSize h), zero-mod (blockSize h), mul-zero (blockSize h))
-
-  -- ---- what is read
-
-  -- the blocks of a padded message: the full ones of the message, and those that are left
-  padded : (m p : List ℕ)
-      → iterate (chainingSize h) (roundCount (chainingSize h)) salt (initial (chainingSize h) h) (block (blockSize h) (m ++ p)) (counterAt (blockSize h) (length m))
-      (blockCount (blockSize h) (length m))
-      ≡ iterate (chainingSize h) (roundCount (chainingSize h)) salt (chained h salt m (length m / blockSize h)) (block (blockSize h) (drop (blockSize h * (length m / blockSize h)) m ++ p))
-      (λ i. counterAt (blockSize h) (length m) (length m / blockSize h + i))
-      (blockCount (blockSize h) (length m) - length m / blockSize h)
-  unfolding chained
-  padded m p =
-      let c = chainingSize h in
-      let b = blockSize h in
-      let n = length m in
-      ap (iterate c (roundCount c) salt (initial c h) (block b (m ++ p)) (counterAt b n)) (sym (blocks-left b (block-pos h) n))
-      ∙ iterate-on c (roundCount c) salt (initial c h) (block b (m ++ p)) (counterAt b n) (n / b) (blockCount b n - n / b)
-      ∙ iterate-ext c (roundCount c) salt _ _ _ _ _ (blockCount b n - n / b) (λ i l. block-rest b (block-pos h) m p i) (λ i l. refl)
-      ∙ ap (λ (v : List ℕ). iterate c (roundCount c) salt v (block b (drop (b * (n / b)) m ++ p)) (λ i. counterAt b n (n / b + i)) (blockCount b n - n / b))
-      (iterate-ext c (roundCount c) salt (initial c h) _ _ _ _ (n / b) (block-stays b (block-pos h) m p) (counter-full-block b (block-pos h) n))
-
-  pub state-digest : (m : List ℕ)
-      → finalChaining (stateOf h salt m)
-      ≡ iterate (chainingSize h) (roundCount (chainingSize h)) salt (initial (chainingSize h) h) (block (blockSize h) (pad (blockSize h) h m))
-      (counterAt (blockSize h) (length m)) (blockCount (blockSize h) (length m))
-  unfolding finalChaining stateOf pad
-  state-digest m =
-      rw (
-        room-used m (length m / blockSize h),
-        take-at (drop (blockSize h * (length m / blockSize h)) m) _ (length m % blockSize h) (length-rest (blockSize h) (block-pos h) m),
-      )
-      (sym (padded m (padding (blockSize h) h (length m))))
-
-  pub opened-digest : (m : List ℕ) → sessionDigest (addBytes (opened h salt) m) ≡ digestOf h salt m
-  unfolding sessionDigest digestOf digest stateOf
-  opened-digest m = ap sessionDigest (opened-state m) ∙ ap (take (h / 8)) (state-digest m)
-
-  -- ---- sessions all along
-
-  pub state-is-session : (m : List ℕ) → admitted h ≡ true → length m ≤ limit → isSession (stateOf h salt m) ≡ true
-  unfolding stateOf
-  state-is-session m a l =
-      sym (is-clear (stateOf h salt m) a l (zeros-behind (drop (blockSize h * (length m / blockSize h)) m) (length m % blockSize h) (192 - length m % blockSize h) (length-rest (blockSize h) (block-pos h) m)))
-      ∙ zeros-behind (chained h salt m (length m / blockSize h)) (chainingSize h) (128 - chainingSize h) (length-chained m _)
+  pub opened-bits : (m : List ℕ) → addBytes (opened h salt) m .bits ≡ h
+  unfolding stateFrom
+  opened-bits m = ap (λ (s : Session). s .bits) (opened-state m)
 
   pub opened-is-session : (m : List ℕ) → admitted h ≡ true → length m ≤ limit → isSession (addBytes (opened h salt) m) ≡ true
-  opened-is-session m a l = ap isSession (opened-state m) ∙ state-is-session m a l
+  unfolding unused
+  opened-is-session m a l =
+      ap isSession (opened-state m) ∙ state-is-session h salt v unused 0 v-long m a (omega (arith, counted m)) (zeros-are-zero (128 - chainingSize h))
+
+  -- what is read is the paper's digest
+  pub opened-digest : (m : List ℕ) → sessionDigest (addBytes (opened h salt) m) ≡ digestOf h salt m
+  unfolding sessionDigest digestOf digest pad stateFrom v
+  opened-digest m =
+      ap sessionDigest (opened-state m)
+      ∙ ap (take (h / 8))
+      (state-final h salt v unused 0 v-long m
+      ∙ ap (λ (n : ℕ). iterate c (roundCount c) salt v (block b (m ++ padding b h n)) (λ i. counterAt b n (0 + i)) (blockCount b n - 0)) (counted m)
+      ∙ ap (iterate c (roundCount c) salt v (block b (m ++ padding b h (length m))) (λ i. counterAt b (length m) (0 + i))) (omega arith)
+      ∙ iterate-ext c (roundCount c) salt v _ _ _ _ _ (λ i l. refl) (λ i l. ap (counterAt b (length m)) (zero-add i)))
+    where
+      b : ℕ
+      b = blockSize h
+
+      c : ℕ
+      c = chainingSize h

@@ -1,42 +1,36 @@
 -- A session as a plain list of the bytes added: what opening, adding and reading answer on it, for whoever knows this crate by its
 -- promises alone. Assumes nothing.
-use mathlib.Core.Path.{_≡_, refl, sym, ap, _∙_}
+use mathlib.Core.Path.{_≡_, refl, sym}
 use mathlib.Core.Bool.{true}
-use mathlib.Core.List.{List, [], _++_}
+use mathlib.Core.List.{List, _++_}
 use Prim.Native.Nat.{ℕ, _+_, _/_, _≤_}
 use native.Mathlib.Omega.{arith}
 use lib.ListN.{drop, length}
 use Rattle.echo.specs.declared.session.Answer.{Answer}
 use Rattle.echo.specs.Digest.{digestOf}
-use Rattle.echo.specs.Session.{addAnswer, admitted, limit, openAnswer, opened, readAnswer, readLeaves, sessionDigest}
-use Rattle.echo.proofs.Laws.Opened.{add-nothing, add-state, opened-digest, opened-state, stateOf, state-is-session}
+use Rattle.echo.specs.Session.{addAnswer, addBytes, admitted, limit, openAnswer, opened, readAnswer, readLeaves}
+use Rattle.echo.proofs.Laws.Opened.{add-pieces, opened-bits, opened-digest, opened-is-session, opened-taken}
 use Rattle.echo.proofs.Laws.Sessions.{added, open-0, read-0}
 
 pub admitted-256 : admitted 256 ≡ true
 unfolding admitted
 admitted-256 = refl
 
-module _ (h : ℕ) (salt : List ℕ) where
-  pub state-taken : (m : List ℕ) → stateOf h salt m .taken ≡ length m
-  unfolding stateOf
-  state-taken m = refl
+module _ (h : ℕ) (salt : List ℕ) (a : admitted h ≡ true) where
+  pub opens : length salt ≡ 16 → _≡_ {A = Answer} (openAnswer h salt) (record { refusal = 0; session = opened h salt })
+  opens l = sym (open-0 h salt a l (opened h salt) refl)
 
-  pub state-bits : (m : List ℕ) → stateOf h salt m .bits ≡ h
-  unfolding stateOf
-  state-bits m = refl
+  pub takes : (m piece : List ℕ) → length m + length piece ≤ limit
+      → _≡_ {A = Answer} (addAnswer (addBytes (opened h salt) m) piece) (record { refusal = 0; session = addBytes (opened h salt) (m ++ piece) })
+  takes m piece n =
+      let s = addBytes (opened h salt) m in
+      sym (added s piece _ (opened-is-session h salt m a (omega arith)) (omega (arith, opened-taken h salt m)) (sym (add-pieces (opened h salt) m piece)))
 
-  module _ (a : admitted h ≡ true) where
-    pub opens : length salt ≡ 16 → _≡_ {A = Answer} (openAnswer h salt) (record { refusal = 0; session = stateOf h salt [] })
-    opens l = sym (open-0 h salt a l (stateOf h salt []) (sym (opened-state h salt []) ∙ add-nothing (opened h salt)))
-
-    pub takes : (m piece : List ℕ) → length m + length piece ≤ limit → _≡_ {A = Answer} (addAnswer (stateOf h salt m) piece) (record { refusal = 0; session = stateOf h salt (m ++ piece) })
-    takes m piece n =
-        sym (added (stateOf h salt m) piece (stateOf h salt (m ++ piece)) (state-is-session h salt m a (omega arith)) (omega (arith, state-taken m)) (sym (add-state h salt m piece)))
-
-    pub reads : (m room : List ℕ) → length m ≤ limit → h / 8 ≤ length room
-        → (_≡_ {A = Answer} (readAnswer (stateOf h salt m) (length room)) (record { refusal = 0; session = stateOf h salt m })) × (readLeaves (stateOf h salt m) room ≡ digestOf h salt m ++ drop (h / 8) room)
-    reads m room n l =
-        let s = stateOf h salt m in
-        let d : sessionDigest s ≡ digestOf h salt m = ap sessionDigest (sym (opened-state h salt m)) ∙ opened-digest h salt m in
-        let R = read-0 s room (state-is-session h salt m a n) (rw (state-bits m) l) (digestOf h salt m ++ drop (h / 8) room) (rw (d, state-bits m) refl) in
-        (sym (R .0), sym (R .1))
+  pub reads : (m room : List ℕ) → length m ≤ limit → h / 8 ≤ length room
+      → (_≡_ {A = Answer} (readAnswer (addBytes (opened h salt) m) (length room)) (record { refusal = 0; session = addBytes (opened h salt) m }))
+      × (readLeaves (addBytes (opened h salt) m) room ≡ digestOf h salt m ++ drop (h / 8) room)
+  reads m room n l =
+      let bits = opened-bits h salt m in
+      let s = addBytes (opened h salt) m in
+      let R = read-0 s room (opened-is-session h salt m a n) (rw bits l) (digestOf h salt m ++ drop (h / 8) room) (rw (opened-digest h salt m, bits) refl) in
+      (sym (R .0), sym (R .1))

@@ -68,11 +68,13 @@ both true b e = (refl, e)
 both false b e = absurd (true≢false (sym e))
 
 pub record SessionFits (s : Session) : Type 0 where
+  pub admits : admitted (s .bits) ≡ true
   pub bits-least : 128 ≤ s .bits
   pub bits-most : s .bits ≤ 512
   pub bits-whole : s .bits % 8 ≡ 0
   pub taken-most : s .taken ≤ limit
   pub rest-zero : allZero (drop (s .taken % blockSize (s .bits)) (s .waiting)) ≡ true
+  pub room-zero : allZero (drop (chainingSize (s .bits)) (s .chaining)) ≡ true
 
 pub session-fits : (s : Session) → isSession s ≡ true → SessionFits s
 unfolding isSession admitted
@@ -83,11 +85,13 @@ session-fits s e =
     let t = both (leb (s .taken) limit) _ (p .1) in
     let u = both (allZero (drop (s .taken % blockSize (s .bits)) (s .waiting))) _ (t .1) in
     record {
+      admits = p .0;
       bits-least = leb-true 128 (s .bits) (q .0);
       bits-most = leb-true (s .bits) 512 (r .0);
       bits-whole = eqb-true (s .bits % 8) 0 (r .1);
       taken-most = leb-true (s .taken) limit (t .0);
       rest-zero = u .0;
+      room-zero = u .1;
     }
 
 -- ---- one byte more

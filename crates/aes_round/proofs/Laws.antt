@@ -8,4 +8,3 @@ pub mod Fill
 pub mod Substitution
 pub mod Mixing
 pub mod Rounds
-pub mod Marked

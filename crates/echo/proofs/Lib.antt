@@ -4,3 +4,4 @@ pub mod ARefusalChangesNothing
 pub mod NothingIsLost
 pub mod OneAnswer
 pub mod TheDigest
+pub mod Theorems

@@ -2,24 +2,29 @@
 -- the rounds send different squares of 256 bytes to different squares and reach every square; the way back undoes them, and they undo
 -- it, exactly, as definitions and as routines; row shift and word-column mix of two squares xored are their two results xored; and the new
 -- chaining value is the fold of the starting square xored with the fold of the finished one. Assumes nothing.
-use mathlib.Core.Path.{_≡_, sym, ap, _∙_}
+use mathlib.Core.Path.{_≡_, refl, sym, ap, _∙_}
 use mathlib.Core.List.{List, _++_}
-use Prim.Native.Nat.{ℕ, _+_, _*_, _<_}
+use Prim.Native.Nat.{ℕ, _+_, _*_, _-_, _/_, _<_}
 use lib.ListN.{length}
 use Rattle.aes_round.specs.Bytes.{Bytes, xorBytes}
 use Rattle.aes_round.specs.Mixing.{forward}
 use Rattle.aes_round.proofs.Laws.Rounds.{mix-columns-xor, shift-xor}
 use Rattle.echo.specs.Compression.{bigFinal, compress, fold}
-use Rattle.echo.specs.Routines.{roundsBackLeave, roundsLeave}
+use Rattle.echo.specs.Families.{roundCount}
+use Rattle.echo.specs.Routines.{compressLeaves, compressRefusal, roundsBackLeave, roundsLeave}
 use Rattle.echo.specs.Square.{bigMixColumns, bigShiftRows, keysFrom, rounds, roundsBack}
-use Rattle.echo.proofs.Laws.Compression.{fold-loaded}
+use Rattle.echo.proofs.Laws.Compression.{block-parts, fold-loaded}
 use Rattle.echo.proofs.Laws.Numbers.{key-bytes}
-use Rattle.echo.proofs.Laws.Square.{Keys, rounds-back-are-squares, rounds-back-undone, rounds-undone}
+use Rattle.echo.proofs.Laws.Refusals.{compress-fit, done}
+use Rattle.echo.proofs.Laws.Square.{Keys, rounds-are-squares, rounds-back-are-squares, rounds-back-undone, rounds-undone}
 use Rattle.echo.proofs.Laws.Undone.{undo-each-other}
 
 module _ (n start : ℕ) (salt : List ℕ) (L : Bytes 16 salt) where
   keys : Keys (keysFrom start)
   keys number = key-bytes (start + number)
+
+  pub squares-go-to-squares : (s : List ℕ) → Bytes 256 s → Bytes 256 (rounds n (keysFrom start) salt s)
+  squares-go-to-squares = rounds-are-squares (keysFrom start) salt keys L n
 
   -- squares that go to one square are one
   pub different-squares-go-to-different-squares : (s t : List ℕ) → Bytes 256 s → Bytes 256 t → rounds n (keysFrom start) salt s ≡ rounds n (keysFrom start) salt t → s ≡ t
@@ -56,3 +61,16 @@ pub new-chaining-value : (c parts n start : ℕ) (salt v m : List ℕ) → 0 < c
 unfolding compress bigFinal
 new-chaining-value c parts n start salt v m h lv lm =
     ap (λ (x : List ℕ). xorBytes c x (fold c (rounds n (keysFrom start) salt (v ++ m)))) (sym (fold-loaded c v m parts h lv lm))
+
+-- what the routine leaves, wherever it refuses nothing
+pub compress-leaves-the-folds : (chaining block : List ℕ) (counter : ℕ) (salt : List ℕ)
+    → compressRefusal (length chaining) (length block) counter (length salt) ≡ 0
+    → compressLeaves chaining block counter salt
+    ≡ xorBytes (length chaining) (fold (length chaining) (chaining ++ block))
+    (fold (length chaining) (rounds (roundCount (length chaining)) (keysFrom counter) salt (chaining ++ block)))
+unfolding compressLeaves
+compress-leaves-the-folds chaining block counter salt z =
+    let F = compress-fit (length chaining) (length block) counter (length salt) z in
+    done _ _ chaining z
+    ∙ new-chaining-value (length chaining) (256 / length chaining - 1) (roundCount (length chaining)) counter salt chaining block (F .some) refl
+    (block-parts (length chaining) (length block) (256 / length chaining) (F .square-fits) (F .parts-fit))

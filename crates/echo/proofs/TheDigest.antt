@@ -6,25 +6,19 @@ use mathlib.Core.Path.{_≡_, refl, sym, ap, _∙_}
 use mathlib.Core.Bool.{true, false}
 use mathlib.Core.List.{List, [], _∷_, _++_, append-assoc, append-nil}
 use Prim.Native.Nat.{ℕ, zero, suc, _+_, _/_, _≤_}
+use native.Mathlib.Nat.{zero-add}
 use native.Mathlib.Omega.{arith}
 use borrow.Author.Tests.{eq-eqb, le-ltb}
 use lib.Dec.{ltb}
 use lib.ListN.{drop, length, length-append}
+use Rattle.echo.specs.declared.session.Answer.{Answer}
 use Rattle.echo.specs.declared.session.Session.{Session}
 use Rattle.echo.specs.Digest.{digestOf}
+use Rattle.echo.specs.Pieces.{addAll, joined}
 use Rattle.echo.specs.Session.{addAnswer, addBytes, addRefusal, admitted, digestLeaves, digestRefusal, isSession, limit, openAnswer, openRefusal, opened, readAnswer, readLeaves}
-use Rattle.echo.proofs.Laws.AtOnce.{well-read}
-use Rattle.echo.proofs.Laws.Opened.{add-nothing, add-pieces, opened-is-session, opened-taken}
-
--- the message that pieces join to
-unfoldable pub joined : List (List ℕ) → List ℕ
-joined [] = []
-joined (piece ∷ pieces) = piece ++ joined pieces
-
--- the session that is handed back when the pieces were added one after the other
-unfoldable pub addAll : Session → List (List ℕ) → Session
-addAll s [] = s
-addAll s (piece ∷ pieces) = addAll (addAnswer s piece .session) pieces
+use Rattle.echo.proofs.Laws.Opened.{add-nothing}
+use Rattle.echo.proofs.Laws.Pieces.{opens, reads, takes}
+use Rattle.echo.proofs.Laws.Refusals.{digest-0, done}
 
 pub reading-changes-nothing : (s : Session) (room : ℕ) → readAnswer s room .session ≡ s
 unfolding readAnswer
@@ -40,50 +34,68 @@ an-empty-piece-changes-nothing s = by (addRefusal s 0) refl
     by (suc n) e = rw e refl
 
 module _ (h : ℕ) (salt : List ℕ) (a : admitted h ≡ true) (l : length salt ≡ 16) where
+  -- the session to which a message was added
+  abbrev holding : List ℕ → Session
+  holding m = addBytes (opened h salt) m
+
+  pub an-opening-opens : openAnswer h salt ≡ record { refusal = 0; session = opened h salt }
+  an-opening-opens = opens h salt a l
+
+  pub an-opening-is-taken : openAnswer h salt .refusal ≡ 0
+  an-opening-is-taken = ap (λ (x : Answer). x .refusal) an-opening-opens
+
   -- a piece is joined to the end of the bytes added
-  pub a-piece-is-joined : (m piece : List ℕ) → length (m ++ piece) ≤ limit → addAnswer (addBytes (opened h salt) m) piece .session ≡ addBytes (opened h salt) (m ++ piece)
-  unfolding addAnswer addRefusal
-  a-piece-is-joined m piece fits = rw (is, no) (add-pieces (opened h salt) m piece)
-    where
-      short : length m ≤ limit
-      short = omega (arith, length-append m piece, fits)
+  pub a-piece-is-joined : (m piece : List ℕ) → length (m ++ piece) ≤ limit
+      → addAnswer (holding m) piece ≡ record { refusal = 0; session = holding (m ++ piece) }
+  a-piece-is-joined m piece fits = takes h salt a m piece (omega (arith, length-append m piece, fits))
 
-      is : isSession (addBytes (opened h salt) m) ≡ true
-      is = opened-is-session h salt m a short
+  opened-session : openAnswer h salt .session ≡ holding []
+  opened-session = ap (λ (x : Answer). x .session) an-opening-opens ∙ sym (add-nothing (opened h salt))
 
-      taken : addBytes (opened h salt) m .taken ≡ length m
-      taken = opened-taken h salt m
-
-      no : ltb limit (addBytes (opened h salt) m .taken + length piece) ≡ false
-      no = le-ltb limit (addBytes (opened h salt) m .taken + length piece) (omega (arith, taken, length-append m piece, fits))
-
-  pub an-opening-opens : openAnswer h salt .session ≡ opened h salt
-  unfolding openAnswer openRefusal
-  an-opening-opens = rw (a, eq-eqb (length salt) 16 l) refl
-
-  all-joined : (m : List ℕ) (pieces : List (List ℕ)) → length (m ++ joined pieces) ≤ limit → addAll (addBytes (opened h salt) m) pieces ≡ addBytes (opened h salt) (m ++ joined pieces)
+  all-joined : (m : List ℕ) (pieces : List (List ℕ)) → length (m ++ joined pieces) ≤ limit → addAll (holding m) pieces ≡ holding (m ++ joined pieces)
   unfolding joined addAll
-  all-joined m [] fits = ap (addBytes (opened h salt)) (sym (append-nil m))
+  all-joined m [] fits = ap holding (sym (append-nil m))
   all-joined m (piece ∷ pieces) fits =
-      ap (λ (s : Session). addAll s pieces) (a-piece-is-joined m piece (omega (arith, fits, length-append m (piece ++ joined pieces), length-append piece (joined pieces), length-append m piece)))
+      let short : length (m ++ piece) ≤ limit =
+      omega (arith, fits, length-append m (piece ++ joined pieces), length-append piece (joined pieces), length-append m piece) in
+      ap (λ (x : Answer). addAll (x .session) pieces) (a-piece-is-joined m piece short)
       ∙ all-joined (m ++ piece) pieces (rw (append-assoc m piece (joined pieces)) fits)
-      ∙ ap (addBytes (opened h salt)) (append-assoc m piece (joined pieces))
+      ∙ ap holding (append-assoc m piece (joined pieces))
 
-  module _ (pieces : List (List ℕ)) (fits : length (joined pieces) ≤ limit) where
-    -- the session of all pieces is that of the message in one piece
-    pub pieces-are-one : addAll (openAnswer h salt .session) pieces ≡ addBytes (opened h salt) (joined pieces)
-    pieces-are-one =
-        ap (λ (s : Session). addAll s pieces) (an-opening-opens ∙ sym (add-nothing (opened h salt)))
-        ∙ all-joined [] pieces fits
+  -- the session of all pieces is that of the message in one piece
+  pub pieces-are-one : (pieces : List (List ℕ)) → length (joined pieces) ≤ limit → addAll (openAnswer h salt .session) pieces ≡ holding (joined pieces)
+  pieces-are-one pieces fits = ap (λ (s : Session). addAll s pieces) opened-session ∙ all-joined [] pieces fits
 
-    -- reading leaves what the digest at once leaves
-    pub read-is-at-once : (room : List ℕ) → readLeaves (addAll (openAnswer h salt .session) pieces) room ≡ digestLeaves h salt (joined pieces) room
-    read-is-at-once room = well-read h salt (joined pieces) room a l fits _ pieces-are-one .1
+  joined-lengths : (xs ys : List (List ℕ)) → length (joined (xs ++ ys)) ≡ length (joined xs) + length (joined ys)
+  unfolding joined
+  joined-lengths [] ys = sym (zero-add (length (joined ys)))
+  joined-lengths (x ∷ xs) ys = omega (arith, length-append x (joined (xs ++ ys)), length-append x (joined xs), joined-lengths xs ys)
 
-    pub at-once-is-the-digest : (room : List ℕ) → h / 8 ≤ length room → digestLeaves h salt (joined pieces) room ≡ digestOf h salt (joined pieces) ++ drop (h / 8) room
-    unfolding digestLeaves digestRefusal
-    at-once-is-the-digest room r = rw (a, eq-eqb (length salt) 16 l, le-ltb limit (length (joined pieces)) fits, le-ltb (length room) (h / 8) r) refl
+  -- no piece is refused
+  pub every-piece-is-taken : (before : List (List ℕ)) (piece : List ℕ) (after : List (List ℕ)) → length (joined (before ++ piece ∷ after)) ≤ limit
+      → addAnswer (addAll (openAnswer h salt .session) before) piece .refusal ≡ 0
+  unfolding joined
+  every-piece-is-taken before piece after fits =
+      let short : length (joined before ++ piece) ≤ limit =
+      omega (arith, fits, joined-lengths before (piece ∷ after), length-append piece (joined after), length-append (joined before) piece) in
+      ap (λ (s : Session). addAnswer s piece .refusal) (pieces-are-one before (omega (arith, short, length-append (joined before) piece)))
+      ∙ ap (λ (x : Answer). x .refusal) (a-piece-is-joined (joined before) piece short)
 
-    pub however-cut-the-digest-is-the-papers : (room : List ℕ) → h / 8 ≤ length room
-        → readLeaves (addAll (openAnswer h salt .session) pieces) room ≡ digestOf h salt (joined pieces) ++ drop (h / 8) room
-    however-cut-the-digest-is-the-papers room r = read-is-at-once room ∙ at-once-is-the-digest room r
+  module _ (pieces : List (List ℕ)) (fits : length (joined pieces) ≤ limit) (room : List ℕ) (r : h / 8 ≤ length room) where
+    -- reading is not refused, and leaves the digest
+    pub however-cut-the-digest-is-the-papers :
+        (readAnswer (addAll (openAnswer h salt .session) pieces) (length room) .refusal ≡ 0)
+        × (readLeaves (addAll (openAnswer h salt .session) pieces) room ≡ digestOf h salt (joined pieces) ++ drop (h / 8) room)
+    however-cut-the-digest-is-the-papers =
+        let R = reads h salt a (joined pieces) room fits r in (
+          ap (λ (s : Session). readAnswer s (length room) .refusal) (pieces-are-one pieces fits) ∙ ap (λ (x : Answer). x .refusal) (R .0),
+          ap (λ (s : Session). readLeaves s room) (pieces-are-one pieces fits) ∙ R .1,
+        )
+
+  -- and so does the digest at once
+  pub at-once-is-the-digest : (message room : List ℕ) → length message ≤ limit → h / 8 ≤ length room
+      → (digestRefusal h (length salt) (length message) (length room) ≡ 0) × (digestLeaves h salt message room ≡ digestOf h salt message ++ drop (h / 8) room)
+  unfolding digestLeaves
+  at-once-is-the-digest message room m r =
+      let n = sym (digest-0 h (length salt) (length message) (length room) a l m r) in
+      (n, done _ (digestOf h salt message ++ drop (h / 8) room) room n)

@@ -9,5 +9,5 @@ pub mod Routines
 pub mod Padding
 pub mod Digest
 pub mod Session
+pub mod Pieces
 pub mod Placed
-pub mod Marked

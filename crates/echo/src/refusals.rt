@@ -4,6 +4,11 @@ ghost use mathlib.Core.Path.{_≡_};
 ghost use lib.Dec.{eqb};
 ghost use Rattle.echo.specs.Families.{sizesFit};
 ghost use Rattle.echo.specs.Routines.{compressRefusal, roundsRefusal};
+ghost use Rattle.echo.specs.Session.{digestRefusal};
+use super::families::admitted;
+
+// The most bytes of a message, 2^61 - 21.
+pub(crate) const LIMIT: u64 = 2_305_843_009_213_693_931;
 
 // The highest starting counter, 2^64 - 161: the 160 words of ten rounds count on from it, and the last stays below 2^64.
 const LAST_COUNTER: u64 = 0xffff_ffff_ffff_ff5f;
@@ -60,6 +65,25 @@ pub(crate) fn compress_refusal(chaining: usize, block: usize, counter: u64, salt
     }
     if LAST_COUNTER < counter {
         return 7;
+    }
+    0
+}
+
+// What a digest at once is refused for, 0 for nothing.
+pub(crate) fn digest_refusal(bits: u64, salt: usize, message: usize, room: usize) -> u8
+    ensures { λ r. ⌜ r ≡ digestRefusal bits salt message room ⌝ }
+{
+    if !admitted(bits) {
+        return 1;
+    }
+    if salt != 16 {
+        return 2;
+    }
+    if LIMIT < message as u64 {
+        return 4;
+    }
+    if room < (bits / 8) as usize {
+        return 5;
     }
     0
 }

@@ -9,11 +9,9 @@ use super::initial::initial;
 use super::last_blocks::finish;
 use super::lent::copy_in;
 use super::lent::sixteen;
+use super::refusals::LIMIT;
 use super::waiting::absorb;
 use super::waiting::zeros_from;
-
-// The most bytes of a message, 2^61 - 21.
-const LIMIT: u64 = 2_305_843_009_213_693_931;
 
 // A digest that is under way. It is passed by value, and each call hands it back.
 pub struct Session {

@@ -63,13 +63,14 @@ module _ (w : ℕ) (f g : ℕ → ℕ) (inside : (e : ℕ) → e < 16 → g e < 
       sym (is-array w s _ l (λ e b he hb. sym (entry-array w _ (g e) b (inside e he) hb ∙ ap (λ (d : ℕ). entry w s d b) (undo e he))))
 
 module _ (w : ℕ) where
-  pub entry-shift : (s : List ℕ) (e b : ℕ) → e < 16 → b < w → entry w (shiftRows w s) e b ≡ entry w s (shiftFrom e) b
+  -- entry e comes from 5 e (mod 16), and on the way back from 13 e
+  pub entry-shift : (s : List ℕ) (e b : ℕ) → e < 16 → b < w → entry w (shiftRows w s) e b ≡ entry w s (5 * e % 16) b
   unfolding shiftRows
-  entry-shift s e b he hb = entry-array w _ e b he hb
+  entry-shift s e b he hb = entry-array w _ e b he hb ∙ ap (λ (d : ℕ). entry w s d b) (agree shiftFrom (λ e. 5 * e % 16) 16 tt e he)
 
-  pub entry-shift-back : (s : List ℕ) (e b : ℕ) → e < 16 → b < w → entry w (shiftRowsBack w s) e b ≡ entry w s (shiftBackFrom e) b
+  pub entry-shift-back : (s : List ℕ) (e b : ℕ) → e < 16 → b < w → entry w (shiftRowsBack w s) e b ≡ entry w s (13 * e % 16) b
   unfolding shiftRowsBack
-  entry-shift-back s e b he hb = entry-array w _ e b he hb
+  entry-shift-back s e b he hb = entry-array w _ e b he hb ∙ ap (λ (d : ℕ). entry w s d b) (agree shiftBackFrom (λ e. 13 * e % 16) 16 tt e he)
 
   pub length-shift : (s : List ℕ) → length (shiftRows w s) ≡ 16 * w
   unfolding shiftRows

@@ -1,90 +1,40 @@
--- The digest at once is an opening, one piece and a reading. Assumes nothing.
-use mathlib.Core.Path.{_≡_, refl, sym, ap, _∙_}
-use mathlib.Core.Bool.{Bool, true, false}
-use mathlib.Core.List.{List, []}
-use Prim.Native.Nat.{ℕ, _/_, _≤_}
-use native.Mathlib.Nat.{zero-add}
+-- The digest at once: what a refusal leaves, and an opening, one piece and a reading where nothing is refused. Assumes nothing.
+use mathlib.Core.Path.{_≡_, sym, ap, _∙_}
+use mathlib.Core.List.{List, [], _++_}
+use Prim.Native.Nat.{ℕ, _/_}
 use native.Mathlib.Omega.{arith}
-use borrow.Author.Tests.{eq-eqb, eqb-true, le-ltb, ltb-false}
-use lib.Dec.{eqb, ltb}
-use lib.ListN.{length}
+use lib.ListN.{drop, length}
+use Rattle.echo.specs.declared.session.Answer.{Answer}
 use Rattle.echo.specs.declared.session.Session.{Session}
 use Rattle.echo.specs.Digest.{digestOf}
-use Rattle.echo.specs.Families.{either}
-use Rattle.echo.specs.Session.{addAnswer, addBytes, addRefusal, admitted, digestLeaves, digestRefusal, isSession, limit, openAnswer, openRefusal, opened, readAnswer, readLeaves, readRefusal, sessionDigest}
-use Rattle.echo.proofs.Laws.Opened.{add-nothing, opened-bits, opened-digest, opened-is-session}
+use Rattle.echo.specs.Session.{addAnswer, addBytes, digestLeaves, digestRefusal, openAnswer, opened, readAnswer, readLeaves}
+use Rattle.echo.proofs.Laws.Opened.{add-nothing}
+use Rattle.echo.proofs.Laws.Pieces.{opens, reads, takes}
+use Rattle.echo.proofs.Laws.Refusals.{DigestFits, digest-fits, done, kept}
 
-module _ (h : ℕ) (salt message room : List ℕ) where
-  -- what is left where an opening is refused, and that it is the digest's own refusal
-  pub not-opened : (openAnswer h salt .refusal ≡ 0 → ⊥)
-      → (openAnswer h salt .refusal ≡ digestRefusal h (length salt) (length message) (length room)) × (room ≡ digestLeaves h salt message room)
-  unfolding openAnswer openRefusal digestRefusal digestLeaves
-  not-opened n = by (admitted h) (eqb (length salt) 16) refl refl
-    where
-      by : (a s : Bool) → admitted h ≡ a → eqb (length salt) 16 ≡ s
-          → (openAnswer h salt .refusal ≡ digestRefusal h (length salt) (length message) (length room)) × (room ≡ digestLeaves h salt message room)
-      by false s p q = (rw p refl, rw p refl)
-      by true false p q = (rw (p, q) refl, rw (p, q) refl)
-      by true true p q = absurd (n (rw (p, q) refl))
+module _ (h : ℕ) (salt message room : List ℕ) (n : ℕ) (e : n ≡ digestRefusal h (length salt) (length message) (length room)) where
+  pub left-as-it-was : (n ≡ 0 → ⊥) → (n ≡ digestRefusal h (length salt) (length message) (length room)) × (room ≡ digestLeaves h salt message room)
+  unfolding digestLeaves
+  left-as-it-was z = (e, sym (kept _ _ room (λ p. z (e ∙ p))))
 
-  -- an opening that is not refused
-  pub well-opened : openAnswer h salt .refusal ≡ 0 → (admitted h ≡ true) × (length salt ≡ 16) × (openAnswer h salt .session ≡ opened h salt)
-  unfolding openAnswer openRefusal
-  well-opened z = by (admitted h) (eqb (length salt) 16) refl refl z
-    where
-      by : (a s : Bool) → admitted h ≡ a → eqb (length salt) 16 ≡ s → openAnswer h salt .refusal ≡ 0 → (admitted h ≡ true) × (length salt ≡ 16) × (openAnswer h salt .session ≡ opened h salt)
-      by false s p q z = let e : _≡_ {A = ℕ} 1 0 = rw p at z in absurd (omega arith)
-      by true false p q z = let e : _≡_ {A = ℕ} 2 0 = rw (p, q) at z in absurd (omega arith)
-      by true true p q z = (p, eqb-true (length salt) 16 q, rw (p, q) refl)
+  module _ (z : n ≡ 0) where
+    fits : DigestFits h (length salt) (length message) (length room)
+    fits = digest-fits h (length salt) (length message) (length room) (sym e ∙ z)
 
-  module _ (a : admitted h ≡ true) (l : length salt ≡ 16) where
-    is : isSession (opened h salt) ≡ true
-    is = ap isSession (sym (add-nothing (opened h salt))) ∙ opened-is-session h salt [] a (omega arith)
+    -- the session of the whole message
+    module _ (opening adding : Answer) (o : opening ≡ openAnswer h salt) (a : adding ≡ addAnswer (opening .session) message) where
+      whole : adding .session ≡ addBytes (opened h salt) message
+      whole =
+          let start : opening .session ≡ addBytes (opened h salt) [] =
+          ap (λ (x : Answer). x .session) (o ∙ opens h salt (fits .admits) (fits .salt-fits)) ∙ sym (add-nothing (opened h salt)) in
+          ap (λ (x : Answer). x .session)
+          (a ∙ ap (λ (s : Session). addAnswer s message) start ∙ takes h salt (fits .admits) [] message (omega (arith, fits .message-fits)))
 
-    add-is : addAnswer (opened h salt) message .refusal ≡ either (ltb limit (length message)) 4 0
-    unfolding addAnswer addRefusal
-    add-is = by (ltb limit (length message)) refl
-      where
-        by : (t : Bool) → ltb limit (length message) ≡ t → addAnswer (opened h salt) message .refusal ≡ either (ltb limit (length message)) 4 0
-        by true q = rw (is, zero-add (length message), q) refl
-        by false q = rw (is, zero-add (length message), q) refl
-
-    pub not-added : (addAnswer (opened h salt) message .refusal ≡ 0 → ⊥)
-        → (addAnswer (opened h salt) message .refusal ≡ digestRefusal h (length salt) (length message) (length room)) × (room ≡ digestLeaves h salt message room)
-    unfolding digestRefusal digestLeaves
-    not-added n = by (ltb limit (length message)) refl
-      where
-        by : (t : Bool) → ltb limit (length message) ≡ t
-            → (addAnswer (opened h salt) message .refusal ≡ digestRefusal h (length salt) (length message) (length room)) × (room ≡ digestLeaves h salt message room)
-        by true q = (add-is ∙ rw (q, a, eq-eqb (length salt) 16 l) refl, rw (q, a, eq-eqb (length salt) 16 l) refl)
-        by false q = absurd (n (add-is ∙ rw q refl))
-
-    pub well-added : addAnswer (opened h salt) message .refusal ≡ 0 → (length message ≤ limit) × (addAnswer (opened h salt) message .session ≡ addBytes (opened h salt) message)
-    unfolding addAnswer addRefusal
-    well-added z = by (ltb limit (length message)) refl z
-      where
-        by : (t : Bool) → ltb limit (length message) ≡ t → addAnswer (opened h salt) message .refusal ≡ 0 → (length message ≤ limit) × (addAnswer (opened h salt) message .session ≡ addBytes (opened h salt) message)
-        by true q z = let e : _≡_ {A = ℕ} 4 0 = sym (add-is ∙ rw q refl) ∙ z in absurd (omega arith)
-        by false q z = (ltb-false limit (length message) q, rw (is, zero-add (length message), q) refl)
-
-    -- reading the whole message's session
-    pub well-read : length message ≤ limit → (s : Session) → s ≡ addBytes (opened h salt) message
-        → (readAnswer s (length room) .refusal ≡ digestRefusal h (length salt) (length message) (length room)) × (readLeaves s room ≡ digestLeaves h salt message room)
-    unfolding readAnswer readLeaves readRefusal digestRefusal digestLeaves
-    well-read m s e = by (ltb (length room) (h / 8)) refl
-      where
-        bits : s .bits ≡ h
-        bits = ap (λ (t : Session). t .bits) e ∙ opened-bits h salt message
-
-        yes : isSession s ≡ true
-        yes = ap isSession e ∙ opened-is-session h salt message a m
-
-        digests : sessionDigest s ≡ digestOf h salt message
-        digests = ap sessionDigest e ∙ opened-digest h salt message
-
-        by : (t : Bool) → ltb (length room) (h / 8) ≡ t
-            → (readAnswer s (length room) .refusal ≡ digestRefusal h (length salt) (length message) (length room)) × (readLeaves s room ≡ digestLeaves h salt message room)
-        by true q =
-            (simp (yes, bits, q, a, eq-eqb (length salt) 16 l, le-ltb limit (length message) m), simp (yes, bits, q, a, eq-eqb (length salt) 16 l, le-ltb limit (length message) m))
-        by false q =
-            (simp (yes, bits, q, a, eq-eqb (length salt) 16 l, le-ltb limit (length message) m), simp (yes, bits, q, a, eq-eqb (length salt) 16 l, le-ltb limit (length message) m, digests))
+      pub at-once : (reading : Answer) (left : List ℕ) → reading ≡ readAnswer (adding .session) (length room) → left ≡ readLeaves (adding .session) room
+          → (reading .refusal ≡ digestRefusal h (length salt) (length message) (length room)) × (left ≡ digestLeaves h salt message room)
+      unfolding digestLeaves
+      at-once reading left r l =
+          let R = reads h salt (fits .admits) message room (fits .message-fits) (fits .room-fits) in (
+            ap (λ (x : Answer). x .refusal) (r ∙ ap (λ (s : Session). readAnswer s (length room)) whole ∙ R .0) ∙ sym z ∙ e,
+            l ∙ ap (λ (s : Session). readLeaves s room) whole ∙ R .1 ∙ sym (done _ (digestOf h salt message ++ drop (h / 8) room) room (sym e ∙ z)),
+          )

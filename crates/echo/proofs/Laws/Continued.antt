@@ -1,6 +1,6 @@
 -- Every record that is a session, whether an opening made it or not: adding and reading continue the paper's iteration from its chaining value
 -- and its count. Assumes nothing.
-use mathlib.Core.Path.{_≡_, refl, sym, ap, ap₂, _∙_, subst}
+use mathlib.Core.Path.{_≡_, refl, sym, ap, ap₂, _∙_}
 use mathlib.Core.Bool.{true}
 use mathlib.Core.List.{List, [], _∷_, _++_, append-assoc}
 use Prim.Native.Nat.{ℕ, _+_, _*_, _-_, _/_, _%_, _<_, _≤_}
@@ -9,17 +9,15 @@ use native.Mathlib.Omega.{arith}
 use borrow.Author.Tests.{eqb-true}
 use lib.Dec.{eqb}
 use lib.ListN.{drop, length, length-append, length-drop, replicate, take, take-append-drop}
-use lib.Seq.{drop-drop, length-take-le}
-use Rattle.aes_round.proofs.Laws.Bytes.{same-list}
+use lib.Seq.{length-take-le}
 use Rattle.echo.specs.declared.session.Answer.{Answer}
 use Rattle.echo.specs.declared.session.Session.{Session}
 use Rattle.echo.specs.Digest.{block, blockCount, counterAt, iterate}
 use Rattle.echo.specs.Families.{blockSize, chainingSize, roundCount}
 use Rattle.echo.specs.Padding.{padding}
-use Rattle.echo.specs.Session.{addAnswer, addBytes, admitted, allZero, isSession, limit, made, sessionDigest}
-use Rattle.echo.proofs.Laws.Ends.{zero-from}
+use Rattle.echo.specs.Session.{addAnswer, addBytes, allZero, isSession, limit, readAnswer, readLeaves, sessionDigest}
 use Rattle.echo.proofs.Laws.Families.{block-pos, sizes}
-use Rattle.echo.proofs.Laws.Sessions.{SessionFits, added, both, session-fits}
+use Rattle.echo.proofs.Laws.Sessions.{SessionFits, added, both, read-0, session-fits}
 use Rattle.echo.proofs.Laws.States.{add-more, chained, made-eq, state-final, state-is-session, stateFrom}
 
 zeros-only : (l : List ℕ) → allZero l ≡ true → l ≡ replicate (length l) 0
@@ -91,7 +89,7 @@ module _ (s : Session) (is : isSession s ≡ true) (lc : length (s .chaining) �
           ∙ ap₂ (λ (k : ℕ) (l : List ℕ). drop k waits ++ l) (mul-zero b) zeros
           ∙ take-append-drop (s .taken % b) (s .waiting)
 
-  module _ (piece : List ℕ) (room : s .taken + length piece ≤ limit) where
+  module _ (piece : List ℕ) (fits-limit : s .taken + length piece ≤ limit) where
     abbrev n : ℕ
     n = s .taken + length piece
 
@@ -101,19 +99,43 @@ module _ (s : Session) (is : isSession s ≡ true) (lc : length (s .chaining) �
     count-is : b * q + length (waits ++ piece) ≡ n
     count-is = omega (arith, length-append waits piece, counted)
 
-    pub continued-is-session : isSession (addBytes s piece) ≡ true
+    continued-is-session : isSession (addBytes s piece) ≡ true
     continued-is-session =
         ap isSession added-is
         ∙ state-is-session h (s .salt) v rest q v-long (waits ++ piece) (fits .admits) (omega (arith, count-is)) (fits .room-zero)
 
-    pub continued-digest : sessionDigest (addBytes s piece)
-        ≡ take (h / 8)
-        (iterate c (roundCount c) (s .salt) v (block b (waits ++ (piece ++ padding b h n))) (λ i. counterAt b n (q + i)) (blockCount b n - q))
+    -- the paper's iteration from the record, over its waiting bytes, the piece and the padding
+    abbrev final : List ℕ
+    final = iterate c (roundCount c) (s .salt) v (block b (waits ++ (piece ++ padding b h n))) (λ i. counterAt b n (q + i)) (blockCount b n - q)
+
+    continued-digest : sessionDigest (addBytes s piece) ≡ take (h / 8) final
     unfolding sessionDigest stateFrom
     continued-digest =
         ap sessionDigest added-is
         ∙ ap (take (h / 8))
         (state-final h (s .salt) v rest q v-long (waits ++ piece)
-        ∙ ap (λ (k : ℕ). iterate c (roundCount c) (s .salt) v (block b ((waits ++ piece) ++ padding b h k)) (λ i. counterAt b k (q + i)) (blockCount b k - q)) count-is
+        ∙ ap (λ (k : ℕ). iterate c (roundCount c) (s .salt) v (block b ((waits ++ piece) ++ padding b h k)) (λ i. counterAt b k (q + i)) (blockCount b k - q))
+        count-is
         ∙ ap (λ (l : List ℕ). iterate c (roundCount c) (s .salt) v (block b l) (λ i. counterAt b n (q + i)) (blockCount b n - q))
         (append-assoc waits piece (padding b h n)))
+
+    bits-stay : addBytes s piece .bits ≡ h
+    unfolding stateFrom
+    bits-stay = ap (λ (x : Session). x .bits) added-is
+
+    is-added : addAnswer s piece ≡ record { refusal = 0; session = addBytes s piece }
+    is-added = sym (added s piece (addBytes s piece) is fits-limit refl)
+
+    pub continues : (room : List ℕ) → h / 8 ≤ length room
+        → (addAnswer s piece .refusal ≡ 0)
+        × (isSession (addAnswer s piece .session) ≡ true)
+        × (readAnswer (addAnswer s piece .session) (length room) .refusal ≡ 0)
+        × (readLeaves (addAnswer s piece .session) room ≡ take (h / 8) final ++ drop (h / 8) room)
+    continues room l =
+        let r = take (h / 8) final ++ drop (h / 8) room in
+        let R = read-0 (addBytes s piece) room continued-is-session (rw bits-stay l) r (rw (continued-digest, bits-stay) refl) in (
+          ap (λ (x : Answer). x .refusal) is-added,
+          ap (λ (x : Answer). isSession (x .session)) is-added ∙ continued-is-session,
+          ap (λ (x : Answer). readAnswer (x .session) (length room) .refusal) is-added ∙ ap (λ (x : Answer). x .refusal) (sym (R .0)),
+          ap (λ (x : Answer). readLeaves (x .session) room) is-added ∙ sym (R .1),
+        )

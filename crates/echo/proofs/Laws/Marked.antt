@@ -1,48 +1,40 @@
--- The marked examples hold: the AES round's by its own proof, the others by computation. Assumes nothing.
+-- The marked examples of counters and padding, by computation. Assumes nothing.
 use mathlib.Core.Path.{_≡_, refl, sym, ap}
 use mathlib.Core.List.{List, [], _∷_, _++_}
 use Prim.Native.Nat.{ℕ, zero, suc, _<_}
 use native.Mathlib.Omega.{arith}
 use lib.Dec.{lit<}
 use lib.ListN.{getD, replicate}
-use Rattle.aes_round.specs.Marked.{Hold}
-use Rattle.aes_round.specs.Marked.{examples as AesRound·examples}
+use Rattle.aes_round.specs.Bytes.{tab}
 use Rattle.aes_round.proofs.Laws.Bytes.{is-tab}
-use Rattle.aes_round.proofs.Laws.Marked.{hold-both}
-use Rattle.aes_round.proofs.Laws.Marked.{marked as AesRound·marked}
 use Rattle.echo.specs.Digest.{blockCount, counterAt}
-use Rattle.echo.specs.Marked.{counterRows, counters, examples, paddings, rowShifts}
+use Rattle.echo.specs.Families.{blockSize}
 use Rattle.echo.specs.Padding.{pad, padding}
 use Rattle.echo.proofs.Laws.Numbers.{lengths-are}
 
-row-shifts : Hold rowShifts
-unfolding rowShifts
-row-shifts = (refl, (refl, (refl, tt)))
-
--- two blocks' counters, by number
-in-order : (n a b : ℕ) → blockCount 192 n ≡ 2 → counterAt 192 n 0 ≡ a → counterAt 192 n 1 ≡ b → counters n ≡ a ∷ b ∷ []
-unfolding counters
-in-order n a b e p q = sym (rw e (is-tab 2 (a ∷ b ∷ []) (counterAt 192 n) refl each))
+-- two numbers in order
+two-are : (f : ℕ → ℕ) (n a b : ℕ) → n ≡ 2 → f 0 ≡ a → f 1 ≡ b → tab n f ≡ a ∷ b ∷ []
+two-are f n a b e p q = sym (rw e (is-tab 2 (a ∷ b ∷ []) f refl each))
   where
-    each : (i : ℕ) → i < 2 → getD (a ∷ b ∷ []) i 0 ≡ counterAt 192 n i
+    each : (i : ℕ) → i < 2 → getD (a ∷ b ∷ []) i 0 ≡ f i
     each zero h = sym p
     each (suc zero) h = sym q
     each (suc (suc i)) h = absurd (omega arith)
 
-counter-rows : Hold counterRows
-unfolding counterRows blockCount counterAt
-counter-rows = (in-order 174 1392 0 refl refl refl, (in-order 192 1536 0 refl refl refl, tt))
+-- the counters of all blocks, for messages of 174 and 192 bytes
+pub counters-174 : tab (blockCount (blockSize 256) 174) (counterAt (blockSize 256) 174) ≡ 1392 ∷ 0 ∷ []
+unfolding blockSize blockCount counterAt
+counters-174 = two-are (counterAt 192 174) 2 1392 0 refl refl refl
 
-padded-messages : Hold paddings
-unfolding paddings pad padding
-padded-messages = (
-  ap (λ (e : List ℕ). 0x80 ∷ (replicate 173 0 ++ e)) (sym (lengths-are 256 0 (lit< tt))),
-  (ap (λ (e : List ℕ). 0x61 ∷ 0x62 ∷ 0x63 ∷ 0x80 ∷ (replicate 170 0 ++ e)) (sym (lengths-are 256 24 (lit< tt))), tt),
-)
+pub counters-192 : tab (blockCount (blockSize 256) 192) (counterAt (blockSize 256) 192) ≡ 1536 ∷ 0 ∷ []
+unfolding blockSize blockCount counterAt
+counters-192 = two-are (counterAt 192 192) 2 1536 0 refl refl refl
 
-pub marked : Hold examples
-unfolding examples
-marked =
-    hold-both AesRound·examples _ AesRound·marked
-    (hold-both rowShifts _ row-shifts
-    (hold-both counterRows paddings counter-rows padded-messages))
+pub empty-padded : pad (blockSize 256) 256 [] ≡ 0x80 ∷ (replicate 173 0 ++ (0x00 ∷ 0x01 ∷ replicate 16 0))
+unfolding blockSize pad padding
+empty-padded = ap (λ (e : List ℕ). 0x80 ∷ (replicate 173 0 ++ e)) (sym (lengths-are 256 0 (lit< tt)))
+
+pub abc-padded : pad (blockSize 256) 256 (0x61 ∷ 0x62 ∷ 0x63 ∷ [])
+    ≡ 0x61 ∷ 0x62 ∷ 0x63 ∷ 0x80 ∷ (replicate 170 0 ++ (0x00 ∷ 0x01 ∷ 0x18 ∷ replicate 15 0))
+unfolding blockSize pad padding
+abc-padded = ap (λ (e : List ℕ). 0x61 ∷ 0x62 ∷ 0x63 ∷ 0x80 ∷ (replicate 170 0 ++ e)) (sym (lengths-are 256 24 (lit< tt)))

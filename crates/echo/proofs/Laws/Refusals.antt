@@ -10,7 +10,7 @@ use lib.Dec.{eqb, ltb}
 use Rattle.echo.specs.Refusals.{Refusal, _when_, firstOf, unless}
 use Rattle.echo.specs.Families.{roundCount, sizesFit}
 use Rattle.echo.specs.Routines.{compressRefusal, roundsRefusal}
-use Rattle.echo.specs.Session.{isSession, readAnswer, readRefusal}
+use Rattle.echo.specs.Session.{admitted, digestRefusal, isSession, limit, readAnswer, readRefusal}
 use Rattle.echo.specs.declared.session.Answer.{Answer}
 use Rattle.echo.specs.declared.session.Session.{Session}
 
@@ -64,6 +64,32 @@ module _ (chaining block counter salt : ℕ) where
       pub compress-0 : counter ≤ 2 ^ 64 - 161 → 0 ≡ compressRefusal chaining block counter salt
       unfolding compressRefusal
       compress-0 k = simp (eq-eqb salt 16 s, n, le-ltb (2 ^ 64 - 161) counter k)
+
+-- ---- the digest at once
+
+module _ (bits salt message room : ℕ) where
+  pub digest-1 : admitted bits ≡ false → 1 ≡ digestRefusal bits salt message room
+  unfolding digestRefusal
+  digest-1 a = simp a
+
+  module _ (a : admitted bits ≡ true) where
+    pub digest-2 : (salt ≡ 16 → ⊥) → 2 ≡ digestRefusal bits salt message room
+    unfolding digestRefusal
+    digest-2 s = simp (a, ne-eqb salt 16 s)
+
+    module _ (s : salt ≡ 16) where
+      pub digest-4 : limit < message → 4 ≡ digestRefusal bits salt message room
+      unfolding digestRefusal
+      digest-4 m = simp (a, eq-eqb salt 16 s, lt-ltb limit message m)
+
+      module _ (m : message ≤ limit) where
+        pub digest-5 : room < bits / 8 → 5 ≡ digestRefusal bits salt message room
+        unfolding digestRefusal
+        digest-5 r = simp (a, eq-eqb salt 16 s, le-ltb limit message m, lt-ltb room (bits / 8) r)
+
+        pub digest-0 : bits / 8 ≤ room → 0 ≡ digestRefusal bits salt message room
+        unfolding digestRefusal
+        digest-0 r = simp (a, eq-eqb salt 16 s, le-ltb limit message m, le-ltb room (bits / 8) r)
 
 -- ---- what no refusal means
 
@@ -155,3 +181,25 @@ compress-fit chaining block counter salt e =
     (λ (p : (chaining ≡ 64) × (block ≡ 192)). subst (λ (n : ℕ). CompressFit n block counter salt) (sym (p .0)) (record { salt-fits = s; some = omega arith; square-fits = omega arith; parts-fit = refl; counters-fit = omega arith }))
     (λ (p : (chaining ≡ 128) × (block ≡ 128)). subst (λ (n : ℕ). CompressFit n block counter salt) (sym (p .0)) (record { salt-fits = s; some = omega arith; square-fits = omega arith; parts-fit = refl; counters-fit = omega arith }))
     (sizes-fit chaining block (not-false (sizesFit chaining block) (b .0)))
+
+pub record DigestFits (bits salt message room : ℕ) : Type 0 where
+  pub admits : admitted bits ≡ true
+  pub salt-fits : salt ≡ 16
+  pub message-fits : message ≤ limit
+  pub room-fits : bits / 8 ≤ room
+
+pub digest-fits : (bits salt message room : ℕ) → digestRefusal bits salt message room ≡ 0 → DigestFits bits salt message room
+unfolding digestRefusal
+digest-fits bits salt message room e =
+    let long = ltb limit message in
+    let small = ltb room (bits / 8) in
+    let a = none-first 1 (not (admitted bits)) ((2 when not (eqb salt 16)) ∷ (4 when long) ∷ (5 when small) ∷ []) (λ z. omega arith) e in
+    let b = none-first 2 (not (eqb salt 16)) ((4 when long) ∷ (5 when small) ∷ []) (λ z. omega arith) (a .1) in
+    let c = none-first 4 long ((5 when small) ∷ []) (λ z. omega arith) (b .1) in
+    let d = none-first 5 small [] (λ z. omega arith) (c .1) in
+    record {
+      admits = not-false (admitted bits) (a .0);
+      salt-fits = eqb-true salt 16 (not-false (eqb salt 16) (b .0));
+      message-fits = ltb-false limit message (c .0);
+      room-fits = ltb-false room (bits / 8) (d .0);
+    }

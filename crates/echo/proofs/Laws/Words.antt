@@ -7,10 +7,8 @@ use native.Mathlib.Omega.{arith}
 use lib.ListN.{getD, length}
 use Rattle.aes_round.specs.Array.{array}
 use Rattle.aes_round.specs.Bytes.{tab}
-use Rattle.aes_round.specs.Rounds.{shiftBackFrom, shiftFrom}
 use Rattle.aes_round.proofs.Laws.Array.{entry-is, is-array, tab-array}
 use Rattle.aes_round.proofs.Laws.Bytes.{getD-tab, is-tab, tab-ext}
-use Rattle.aes_round.proofs.Laws.Every.{agree}
 use Rattle.aes_round.proofs.Laws.Fill.{Filled, fill-all, fill-none}
 use Rattle.aes_round.proofs.Laws.Rounds.{entry-shift, entry-shift-back, length-shift, length-shift-back}
 use Rattle.echo.specs.Placed.{Placed}
@@ -79,18 +77,15 @@ pub shift-words : (s : List ℕ) → array 16 (λ i b. getD (tab 16 (λ b. getD 
 unfolding bigShiftRows
 shift-words s =
     sym (is-array 16 _ _ (length-shift 16 s)
-    (λ i b hi hb.
-    entry-shift 16 s i b hi hb ∙ entry-is 16 s (shiftFrom i) b ∙ ap (λ (j : ℕ). getD s (16 * j + b) 0) (places i hi) ∙ sym (getD-tab 16 _ b hb)))
-  where
-    places : (i : ℕ) → i < 16 → shiftFrom i ≡ 5 * i % 16
-    places = agree shiftFrom (λ i. 5 * i % 16) 16 tt
+    (λ i b hi hb. entry-shift 16 s i b hi hb ∙ entry-is 16 s (5 * i % 16) b ∙ sym (getD-tab 16 _ b hb)))
 
 pub shift-words-back : (s : List ℕ) → array 16 (λ i b. getD (tab 16 (λ b. getD s (16 * (13 * i % 16) + b) 0)) b 0) ≡ bigShiftRowsBack s
 unfolding bigShiftRowsBack
 shift-words-back s =
     sym (is-array 16 _ _ (length-shift-back 16 s)
-    (λ i b hi hb.
-    entry-shift-back 16 s i b hi hb ∙ entry-is 16 s (shiftBackFrom i) b ∙ ap (λ (j : ℕ). getD s (16 * j + b) 0) (places i hi) ∙ sym (getD-tab 16 _ b hb)))
-  where
-    places : (i : ℕ) → i < 16 → shiftBackFrom i ≡ 13 * i % 16
-    places = agree shiftBackFrom (λ i. 13 * i % 16) 16 tt
+    (λ i b hi hb. entry-shift-back 16 s i b hi hb ∙ entry-is 16 s (13 * i % 16) b ∙ sym (getD-tab 16 _ b hb)))
+
+-- the word that comes to place i
+pub shifted-word : (s : List ℕ) (i : ℕ) → i < 16 → word (bigShiftRows s) i ≡ word s (5 * i % 16)
+unfolding word bigShiftRows
+shifted-word s i h = tab-ext 16 _ _ (λ b hb. entry-shift 16 s i b h hb)

@@ -11,8 +11,8 @@ use lib.Seq.{length-take-le}
 use Rattle.echo.specs.declared.session.Answer.{Answer}
 use Rattle.echo.specs.declared.session.Session.{Session}
 use Rattle.echo.specs.Digest.{digestOf}
-use Rattle.echo.specs.Session.{addAnswer, openAnswer, readAnswer, readLeaves}
-use Rattle.echo.proofs.Laws.Opened.{opened-state, stateOf}
+use Rattle.echo.specs.Session.{addAnswer, addBytes, openAnswer, opened, readAnswer, readLeaves}
+use Rattle.echo.proofs.Laws.Opened.{add-nothing}
 use Rattle.echo.proofs.Laws.Pieces.{admitted-256, opens, reads, takes}
 use Rattle.steering.specs.Fingerprint.{bodiesOf, fingerprintAnswer, fingerprintLeaves, joinedAnswer, placeOf, refusalOf}
 use Rattle.steering.specs.Numbers.{AreBytes, either}
@@ -83,7 +83,7 @@ pub record Walked (salt t : List ℕ) (at : ℕ) (s : Session) : Type 0 where
   pub rest : List Record
   pub parses : parseFrom fuel t at ≡ accepted rest
   pub splits : bodiesOf (parse t) ≡ done ++ bodies rest
-  pub state : s ≡ stateOf 256 salt done
+  pub state : s ≡ addBytes (opened 256 salt) done
   pub within : at ≤ length t
   pub few : length done ≤ at
 
@@ -113,7 +113,7 @@ module _ (salt t : List ℕ) (b : AreBytes t) where
         rest = rs;
         parses = p;
         splits = ap bodiesOf p;
-        state = ap (λ (a : Answer). a .session) (e ∙ opens 256 salt admitted-256 l);
+        state = ap (λ (a : Answer). a .session) (e ∙ opens 256 salt admitted-256 l) ∙ sym (add-nothing (opened 256 salt));
         within = omega arith;
         few = omega arith;
       }
@@ -132,7 +132,7 @@ module _ (salt t : List ℕ) (at : ℕ) (s : Session) (W : Walked salt t at s) w
       long : length piece ≡ next - (at + 1)
       long = let H = found t at r next e in length-take-le (next - (at + 1)) (drop (at + 1) t) (omega (arith, length-drop (at + 1) t, H .next-is, H .in-table))
 
-      takes-it : _≡_ {A = Answer} answer (record { refusal = 0; session = stateOf 256 salt (W .done ++ piece) })
+      takes-it : _≡_ {A = Answer} answer (record { refusal = 0; session = addBytes (opened 256 salt) (W .done ++ piece) })
       takes-it =
           let H = found t at r next e in
           a ∙ ap (λ (x : Session). addAnswer x piece) (W .state) ∙ takes 256 salt admitted-256 (W .done) piece (omega (arith, long, W .few, H .next-is, H .in-table, H .not-long))
@@ -168,7 +168,7 @@ module _ (salt t : List ℕ) (at : ℕ) (s : Session) (W : Walked salt t at s) w
       let g = U .goes in
       let none : W .rest ≡ [] = cc in
       let all : bodiesOf (parse t) ≡ W .done = W .splits ∙ ap (λ (l : List Record). W .done ++ bodies l) none ∙ append-nil (W .done) in
-      ap (λ (x : Session). record { refusal = 0; session = x }) (W .state ∙ ap (stateOf 256 salt) (sym all) ∙ sym (opened-state 256 salt (bodiesOf (parse t))))
+      ap (λ (x : Session). record { refusal = 0; session = x }) (W .state ∙ ap (addBytes (opened 256 salt)) (sym all))
 
   walk-stop : (number place : ℕ) → Refused number place ≡ readAt t at → ⊥
   walk-stop number place e =
@@ -240,9 +240,8 @@ module _ (salt t room : List ℕ) (b : AreBytes t) (z : refusalOf (parse t) ≡ 
   unfolding joinedAnswer
   read-all h s e =
       let m = bodiesOf (parse t) in
-      let f : s ≡ stateOf 256 salt m = e ∙ opened-state 256 salt m in
       let R = reads 256 salt admitted-256 m room (omega (arith, few-bytes)) h in
-      (ap (λ (x : Session). readAnswer x (length room) .refusal) f ∙ ap (λ (a : Answer). a .refusal) (R .0), ap (λ (x : Session). readLeaves x room) f ∙ R .1)
+      (ap (λ (x : Session). readAnswer x (length room) .refusal) e ∙ ap (λ (a : Answer). a .refusal) (R .0), ap (λ (x : Session). readLeaves x room) e ∙ R .1)
 
 -- ---- the answers
 

@@ -1,0 +1,45 @@
+-- The theorems of this crate that the pages quote, each closed: what it assumes stands in its statement. Assumes nothing.
+use mathlib.Core.Path.{_≡_, refl}
+use mathlib.Core.List.{List, [], _∷_}
+use Prim.Native.Nat.{ℕ, _<_}
+use Rattle.aes_round.specs.Bytes.{Bytes, tab, xor}
+use Rattle.aes_round.specs.Field.{mul}
+use Rattle.aes_round.specs.Marked.{Hold, _gives_}
+use Rattle.aes_round.specs.Mixing.{backward, dot, forward, mixColumn}
+use Rattle.aes_round.specs.Rounds.{aesRound, aesRoundBack}
+use Rattle.aes_round.specs.Substitution.{inverse, subByte, subByteBack}
+use Rattle.aes_round.proofs.Laws.Mixing as mixing
+use Rattle.aes_round.proofs.Laws.Rounds as rounds
+use Rattle.aes_round.proofs.Laws.Substitution as substitution
+
+-- substitution, doubling, mix of a column
+pub the-marked-examples-hold : Hold
+    (((subByte 0x00 ∷ []) gives (0x63 ∷ []))
+    ∷ ((subByte 0x53 ∷ []) gives (0xed ∷ []))
+    ∷ ((mul 2 0x80 ∷ []) gives (0x1b ∷ []))
+    ∷ ((mul 2 0x57 ∷ []) gives (0xae ∷ []))
+    ∷ (mixColumn forward (0xdb ∷ 0x13 ∷ 0x53 ∷ 0x45 ∷ []) gives (0x8e ∷ 0x4d ∷ 0xa1 ∷ 0xbc ∷ []))
+    ∷ [])
+unfolding subByte mul xor mixColumn dot forward tab
+the-marked-examples-hold = (refl, (refl, (refl, (refl, (refl, tt)))))
+
+pub the-inverse-is-one : (x : ℕ) → 0 < x → x < 256 → mul x (inverse x) ≡ 1
+the-inverse-is-one = substitution.inverse-is
+
+pub the-substitution-is-undone : (x : ℕ) → x < 256 → subByteBack (subByte x) ≡ x
+the-substitution-is-undone = substitution.sub-undone
+
+pub the-substitution-undoes : (x : ℕ) → x < 256 → subByte (subByteBack x) ≡ x
+the-substitution-undoes = substitution.sub-back-undone
+
+pub the-mix-is-undone : (c : List ℕ) → Bytes 4 c → mixColumn backward (mixColumn forward c) ≡ c
+the-mix-is-undone = mixing.mix-undone
+
+pub the-mix-undoes : (c : List ℕ) → Bytes 4 c → mixColumn forward (mixColumn backward c) ≡ c
+the-mix-undoes = mixing.mix-back-undone
+
+pub the-round-is-undone : (s k : List ℕ) → Bytes 16 s → aesRoundBack (aesRound s k) k ≡ s
+the-round-is-undone = rounds.round-undone
+
+pub the-round-undoes : (s k : List ℕ) → Bytes 16 s → Bytes 16 k → aesRound (aesRoundBack s k) k ≡ s
+the-round-undoes = rounds.round-back-undone

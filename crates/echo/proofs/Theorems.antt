@@ -1,0 +1,267 @@
+-- The theorems of this crate that the pages quote, each closed: what it assumes stands in its statement. Assumes nothing.
+use mathlib.Core.Path.{_≡_}
+use mathlib.Core.Bool.{false, true}
+use mathlib.Core.List.{List, [], _∷_, _++_}
+use Prim.Native.Nat.{ℕ, suc, _+_, _*_, _-_, _/_, _%_, _<_, _≤_}
+use lib.Dec.{lit<}
+use lib.ListN.{drop, length, replicate, take}
+use Rattle.aes_round.specs.Bytes.{Bytes, tab, xorBytes}
+use Rattle.aes_round.specs.Field.{mul}
+use Rattle.aes_round.specs.Marked.{Hold, _gives_}
+use Rattle.aes_round.specs.Mixing.{forward, mixColumn}
+use Rattle.aes_round.specs.Substitution.{subByte}
+use Rattle.aes_round.proofs.Theorems as aes-round
+use Rattle.echo.specs.declared.session.Session.{Session}
+use Rattle.echo.specs.Compression.{compress, fold}
+use Rattle.echo.specs.Digest.{block, blockCount, counterAt, digestOf, iterate}
+use Rattle.echo.specs.Families.{blockSize, chainingSize, roundCount}
+use Rattle.echo.specs.Padding.{pad, padding}
+use Rattle.echo.specs.Pieces.{addAll, joined}
+use Rattle.echo.specs.Routines.{compressLeaves, compressRefusal, roundsBackLeave, roundsLeave, roundsRefusal}
+use Rattle.echo.specs.Session.{
+  addAnswer,
+  addBytes,
+  addRefusal,
+  admitted,
+  blank,
+  digestLeaves,
+  digestRefusal,
+  isSession,
+  limit,
+  openAnswer,
+  openRefusal,
+  opened,
+  readAnswer,
+  readLeaves,
+  readRefusal,
+}
+use Rattle.echo.specs.Square.{bigMixColumns, bigShiftRows, keysFrom, rounds, roundsBack, word}
+use Rattle.echo.proofs.ARefusalChangesNothing as refusing
+use Rattle.echo.proofs.Laws.Continued as continued
+use Rattle.echo.proofs.Laws.Folded as folded
+use Rattle.echo.proofs.Laws.Marked as marked
+use Rattle.echo.proofs.Laws.Padded as padded
+use Rattle.echo.proofs.Laws.Words as words
+use Rattle.echo.proofs.NothingIsLost as mixing
+use Rattle.echo.proofs.TheDigest as digest
+
+-- ---- a refusal, whose number is k + 1, changes nothing
+
+pub refused-rounds-leave-the-square : (k : ℕ) (square : List ℕ) (count counter : ℕ) (salt : List ℕ)
+    → roundsRefusal (length square) count counter (length salt) ≡ suc k
+    → roundsLeave square count counter salt ≡ square
+refused-rounds-leave-the-square = refusing.refused-rounds-leave-the-square
+
+pub refused-rounds-back-leave-the-square : (k : ℕ) (square : List ℕ) (count counter : ℕ) (salt : List ℕ)
+    → roundsRefusal (length square) count counter (length salt) ≡ suc k
+    → roundsBackLeave square count counter salt ≡ square
+refused-rounds-back-leave-the-square = refusing.refused-rounds-back-leave-the-square
+
+pub a-refused-compression-leaves-the-chaining-value : (k : ℕ) (chaining block : List ℕ) (counter : ℕ) (salt : List ℕ)
+    → compressRefusal (length chaining) (length block) counter (length salt) ≡ suc k
+    → compressLeaves chaining block counter salt ≡ chaining
+a-refused-compression-leaves-the-chaining-value = refusing.a-refused-compression-leaves-the-chaining-value
+
+pub a-refused-opening-is-blank : (k h : ℕ) (salt : List ℕ) → openRefusal h (length salt) ≡ suc k → openAnswer h salt .session ≡ blank
+a-refused-opening-is-blank = refusing.a-refused-opening-is-blank
+
+pub the-blank-session-is-none : isSession blank ≡ false
+the-blank-session-is-none = refusing.the-blank-session-is-none
+
+pub a-refused-piece-changes-nothing : (k : ℕ) (s : Session) (piece : List ℕ)
+    → addRefusal s (length piece) ≡ suc k
+    → addAnswer s piece .session ≡ s
+a-refused-piece-changes-nothing = refusing.a-refused-piece-changes-nothing
+
+pub a-refused-reading-leaves-the-room : (k : ℕ) (s : Session) (room : List ℕ) → readRefusal s (length room) ≡ suc k → readLeaves s room ≡ room
+a-refused-reading-leaves-the-room = refusing.a-refused-reading-leaves-the-room
+
+pub reading-changes-nothing : (s : Session) (room : ℕ) → readAnswer s room .session ≡ s
+reading-changes-nothing = digest.reading-changes-nothing
+
+pub a-refused-digest-leaves-the-room : (k h : ℕ) (salt message room : List ℕ)
+    → digestRefusal h (length salt) (length message) (length room) ≡ suc k
+    → digestLeaves h salt message room ≡ room
+a-refused-digest-leaves-the-room = refusing.a-refused-digest-leaves-the-room
+
+-- ---- the digest is the paper's
+
+pub however-cut-the-digest-is-the-papers : (h : ℕ) (salt : List ℕ) (pieces : List (List ℕ)) (room : List ℕ)
+    → admitted h ≡ true
+    → length salt ≡ 16
+    → length (joined pieces) ≤ limit
+    → h / 8 ≤ length room
+    → (readAnswer (addAll (openAnswer h salt .session) pieces) (length room) .refusal ≡ 0)
+    × (readLeaves (addAll (openAnswer h salt .session) pieces) room ≡ digestOf h salt (joined pieces) ++ drop (h / 8) room)
+however-cut-the-digest-is-the-papers h salt pieces room a l m r = digest.however-cut-the-digest-is-the-papers h salt a l pieces m room r
+
+pub an-opening-is-taken : (h : ℕ) (salt : List ℕ) → admitted h ≡ true → length salt ≡ 16 → openAnswer h salt .refusal ≡ 0
+an-opening-is-taken = digest.an-opening-is-taken
+
+pub every-piece-is-taken : (h : ℕ) (salt : List ℕ) (before : List (List ℕ)) (piece : List ℕ) (after : List (List ℕ))
+    → admitted h ≡ true
+    → length salt ≡ 16
+    → length (joined (before ++ piece ∷ after)) ≤ limit
+    → addAnswer (addAll (openAnswer h salt .session) before) piece .refusal ≡ 0
+every-piece-is-taken h salt before piece after a l m = digest.every-piece-is-taken h salt a l before piece after m
+
+pub at-once-is-the-digest : (h : ℕ) (salt message room : List ℕ)
+    → admitted h ≡ true
+    → length salt ≡ 16
+    → length message ≤ limit
+    → h / 8 ≤ length room
+    → (digestRefusal h (length salt) (length message) (length room) ≡ 0)
+    × (digestLeaves h salt message room ≡ digestOf h salt message ++ drop (h / 8) room)
+at-once-is-the-digest h salt message room a l m r = digest.at-once-is-the-digest h salt a l message room m r
+
+pub a-piece-is-joined : (h : ℕ) (salt m piece : List ℕ)
+    → admitted h ≡ true
+    → length salt ≡ 16
+    → length (m ++ piece) ≤ limit
+    → addAnswer (addBytes (opened h salt) m) piece ≡ record { refusal = 0; session = addBytes (opened h salt) (m ++ piece) }
+a-piece-is-joined h salt m piece a l f = digest.a-piece-is-joined h salt a l m piece f
+
+pub an-empty-piece-changes-nothing : (s : Session) → addAnswer s [] .session ≡ s
+an-empty-piece-changes-nothing = digest.an-empty-piece-changes-nothing
+
+-- any record that is a session, whether an opening made it or not; `chaining` and `waiting` are arrays of these lengths
+pub every-session-continues-the-iteration : (s : Session) (piece room : List ℕ)
+    → isSession s ≡ true
+    → length (s .chaining) ≡ 128
+    → length (s .waiting) ≡ 192
+    → s .taken + length piece ≤ limit
+    → s .bits / 8 ≤ length room
+    → (addAnswer s piece .refusal ≡ 0)
+    × (isSession (addAnswer s piece .session) ≡ true)
+    × (readAnswer (addAnswer s piece .session) (length room) .refusal ≡ 0)
+    × (readLeaves (addAnswer s piece .session) room
+    ≡ take (s .bits / 8)
+    (iterate (chainingSize (s .bits)) (roundCount (chainingSize (s .bits))) (s .salt)
+    (take (chainingSize (s .bits)) (s .chaining))
+    (block (blockSize (s .bits))
+    (take (s .taken % blockSize (s .bits)) (s .waiting) ++ (piece ++ padding (blockSize (s .bits)) (s .bits) (s .taken + length piece))))
+    (λ i. counterAt (blockSize (s .bits)) (s .taken + length piece) (s .taken / blockSize (s .bits) + i))
+    (blockCount (blockSize (s .bits)) (s .taken + length piece) - s .taken / blockSize (s .bits)))
+    ++ drop (s .bits / 8) room)
+every-session-continues-the-iteration s piece room is c w l r = continued.continues s is c w piece l room r
+
+pub the-padded-message-fills-its-blocks : (b h : ℕ) (m : List ℕ) → 0 < b → length (pad b h m) ≡ b * blockCount b (length m)
+the-padded-message-fills-its-blocks b h m p = padded.pad-fills b p h m
+
+-- z zero bytes would fill blocks too, between the byte 80 and the eighteen bytes of the lengths
+pub no-fewer-zeros-would-do : (b n z : ℕ) → 0 < b → (n + 1 + z + 18) % b ≡ 0 → b - (n + 18) % b - 1 ≤ z
+no-fewer-zeros-would-do b n z p e = padded.no-fewer-zeros b p n z e
+
+-- substitution, doubling and mix; row shift, of any square s; counters of all blocks; padding
+pub the-marked-examples-hold : (s : List ℕ) → Hold
+    (((subByte 0x00 ∷ []) gives (0x63 ∷ []))
+    ∷ ((subByte 0x53 ∷ []) gives (0xed ∷ []))
+    ∷ ((mul 2 0x80 ∷ []) gives (0x1b ∷ []))
+    ∷ ((mul 2 0x57 ∷ []) gives (0xae ∷ []))
+    ∷ (mixColumn forward (0xdb ∷ 0x13 ∷ 0x53 ∷ 0x45 ∷ []) gives (0x8e ∷ 0x4d ∷ 0xa1 ∷ 0xbc ∷ []))
+    ∷ (word (bigShiftRows s) 5 gives word s 9)
+    ∷ (word (bigShiftRows s) 13 gives word s 1)
+    ∷ (word (bigShiftRows s) 3 gives word s 15)
+    ∷ (tab (blockCount (blockSize 256) 174) (counterAt (blockSize 256) 174) gives (1392 ∷ 0 ∷ []))
+    ∷ (tab (blockCount (blockSize 256) 192) (counterAt (blockSize 256) 192) gives (1536 ∷ 0 ∷ []))
+    ∷ (pad (blockSize 256) 256 [] gives (0x80 ∷ (replicate 173 0 ++ (0x00 ∷ 0x01 ∷ replicate 16 0))))
+    ∷ (pad (blockSize 256) 256 (0x61 ∷ 0x62 ∷ 0x63 ∷ [])
+    gives (0x61 ∷ 0x62 ∷ 0x63 ∷ 0x80 ∷ (replicate 170 0 ++ (0x00 ∷ 0x01 ∷ 0x18 ∷ replicate 15 0))))
+    ∷ [])
+the-marked-examples-hold s =
+    let A = aes-round.the-marked-examples-hold in (
+      A .0,
+      (
+        A .1 .0,
+        (
+          A .1 .1 .0,
+          (
+            A .1 .1 .1 .0,
+            (
+              A .1 .1 .1 .1 .0,
+              (
+                words.shifted-word s 5 (lit< tt),
+                (
+                  words.shifted-word s 13 (lit< tt),
+                  (
+                    words.shifted-word s 3 (lit< tt),
+                    (marked.counters-174, (marked.counters-192, (marked.empty-padded, (marked.abc-padded, tt)))),
+                  ),
+                ),
+              ),
+            ),
+          ),
+        ),
+      ),
+    )
+
+-- ---- nothing is lost before the fold
+
+pub squares-go-to-squares : (n start : ℕ) (salt s : List ℕ) → Bytes 16 salt → Bytes 256 s → Bytes 256 (rounds n (keysFrom start) salt s)
+squares-go-to-squares n start salt s L = mixing.squares-go-to-squares n start salt L s
+
+pub different-squares-go-to-different-squares : (n start : ℕ) (salt s t : List ℕ)
+    → Bytes 16 salt
+    → Bytes 256 s
+    → Bytes 256 t
+    → rounds n (keysFrom start) salt s ≡ rounds n (keysFrom start) salt t
+    → s ≡ t
+different-squares-go-to-different-squares n start salt s t L = mixing.different-squares-go-to-different-squares n start salt L s t
+
+pub every-square-is-reached : (n start : ℕ) (salt t : List ℕ)
+    → Bytes 16 salt
+    → Bytes 256 t
+    → (s : List ℕ) × Bytes 256 s × (rounds n (keysFrom start) salt s ≡ t)
+every-square-is-reached n start salt t L = mixing.every-square-is-reached n start salt L t
+
+pub backward-undoes-forward : (n start : ℕ) (salt s : List ℕ)
+    → Bytes 16 salt
+    → Bytes 256 s
+    → roundsBack n (keysFrom start) salt (rounds n (keysFrom start) salt s) ≡ s
+backward-undoes-forward n start salt s L = mixing.backward-undoes-forward n start salt L s
+
+pub forward-undoes-backward : (n start : ℕ) (salt s : List ℕ)
+    → Bytes 16 salt
+    → Bytes 256 s
+    → rounds n (keysFrom start) salt (roundsBack n (keysFrom start) salt s) ≡ s
+forward-undoes-backward n start salt s L = mixing.forward-undoes-backward n start salt L s
+
+-- the two routines as they are called, refused or not
+pub the-routines-undo-each-other : (square : List ℕ) (count counter : ℕ) (salt : List ℕ)
+    → Bytes (length square) square
+    → Bytes (length salt) salt
+    → (roundsBackLeave (roundsLeave square count counter salt) count counter salt ≡ square)
+    × (roundsLeave (roundsBackLeave square count counter salt) count counter salt ≡ square)
+the-routines-undo-each-other = mixing.the-routines-undo-each-other
+
+pub row-shift-of-xor : (s t : List ℕ) → bigShiftRows (xorBytes 256 s t) ≡ xorBytes 256 (bigShiftRows s) (bigShiftRows t)
+row-shift-of-xor = mixing.row-shift-of-xor
+
+pub column-mix-of-xor : (s t : List ℕ) → bigMixColumns (xorBytes 256 s t) ≡ xorBytes 256 (bigMixColumns s) (bigMixColumns t)
+column-mix-of-xor = mixing.column-mix-of-xor
+
+-- a chaining variable v of c bytes and a block m of so many parts of c bytes: c = 64 with 3 parts, c = 128 with 1
+pub new-chaining-value : (c parts n start : ℕ) (salt v m : List ℕ)
+    → 0 < c
+    → length v ≡ c
+    → length m ≡ c * parts
+    → compress c n (keysFrom start) salt v m ≡ xorBytes c (fold c (v ++ m)) (fold c (rounds n (keysFrom start) salt (v ++ m)))
+new-chaining-value = mixing.new-chaining-value
+
+-- the same of what the routine leaves
+pub compress-leaves-the-folds : (chaining block : List ℕ) (counter : ℕ) (salt : List ℕ)
+    → compressRefusal (length chaining) (length block) counter (length salt) ≡ 0
+    → compressLeaves chaining block counter salt
+    ≡ xorBytes (length chaining) (fold (length chaining) (chaining ++ block))
+    (fold (length chaining) (rounds (roundCount (length chaining)) (keysFrom counter) salt (chaining ++ block)))
+compress-leaves-the-folds = mixing.compress-leaves-the-folds
+
+-- the fold in words
+pub the-short-fold : (s : List ℕ) (i : ℕ)
+    → length s ≡ 256
+    → i < 4
+    → word (fold 64 s) i ≡ xorBytes 16 (xorBytes 16 (xorBytes 16 (word s i) (word s (i + 4))) (word s (i + 8))) (word s (i + 12))
+the-short-fold s i l = folded.fold-short s l i
+
+pub the-long-fold : (s : List ℕ) (i : ℕ) → length s ≡ 256 → i < 8 → word (fold 128 s) i ≡ xorBytes 16 (word s i) (word s (i + 8))
+the-long-fold s i l = folded.fold-long s l i

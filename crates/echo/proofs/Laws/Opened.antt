@@ -17,7 +17,8 @@ use Rattle.echo.specs.Padding.{pad, padding}
 use Rattle.echo.specs.Session.{addByte, addBytes, admitted, allZero, finalChaining, isSession, limit, made, opened, sessionDigest}
 use Rattle.echo.specs.Square.{keysFrom}
 use Rattle.echo.proofs.Laws.Families.{block-pos, sizes}
-use Rattle.echo.proofs.Laws.Sessions.{is-clear, put-full, put-more}
+use Rattle.echo.proofs.Laws.Sessions.{is-clear}
+use Rattle.echo.proofs.Laws.Waiting.{put-full, put-more}
 use Rattle.echo.proofs.Laws.Stream.{block-rest, block-stays, blocks-left, count-full, count-more, counter-full, counter-full-block, iterate-ext, iterate-on, length-iterate, length-rest, length-snoc, nothing-waits, stored-full, stored-more}
 
 -- the chaining variable after t full blocks of a message
@@ -96,14 +97,21 @@ module _ (h : ℕ) (salt : List ℕ) where
       full : suc (length xs % blockSize h) ≡ blockSize h → addByte (stateOf h salt xs) x ≡ stateOf h salt (xs ++ x ∷ [])
       full e =
           let f : length xs % blockSize h + 1 ≡ blockSize h = omega arith in
-          sym (put-full h (length xs) x (length xs % blockSize h) salt _ _ refl (chained h salt (xs ++ x ∷ []) (length (xs ++ x ∷ []) / blockSize h) ++ replicate (128 - chainingSize h) 0) f
-          (rw (chained-full xs x f, room-used xs (length xs / blockSize h), room-rest xs (length xs / blockSize h), stored-full (blockSize h) (block-pos h) xs x f 192 block-fits)))
+          sym (put-full h (length xs) (length xs % blockSize h) (blockSize h) refl refl (omega arith) x salt _ _
+          (chained h salt (xs ++ x ∷ []) (length (xs ++ x ∷ []) / blockSize h) ++ replicate (128 - chainingSize h) 0) (replicate 192 0)
+          (rw (
+            chained-full xs x f,
+            room-used xs (length xs / blockSize h),
+            room-rest xs (length xs / blockSize h),
+            stored-full (blockSize h) (block-pos h) xs x f 192 block-fits,
+          ))
+          refl)
           ∙ made-eq refl (sym (length-snoc xs x)) (nothing-waits (blockSize h) (block-pos h) xs x f 192)
 
       more : suc (length xs % blockSize h) < blockSize h → addByte (stateOf h salt xs) x ≡ stateOf h salt (xs ++ x ∷ [])
       more e =
           let l : length xs % blockSize h + 1 < blockSize h = omega arith in
-          sym (put-more h (length xs) x (length xs % blockSize h) salt _ _ refl l)
+          sym (put-more h (length xs) (length xs % blockSize h) (blockSize h) refl refl l x salt _ _)
           ∙ made-eq (ap (λ (v : List ℕ). v ++ replicate (128 - chainingSize h) 0) (chained-more xs x l)) (sym (length-snoc xs x)) (stored-more (blockSize h) (block-pos h) xs x l 192 block-fits)
 
   pub add-state : (xs ys : List ℕ) → addBytes (stateOf h salt xs) ys ≡ stateOf h salt (xs ++ ys)

@@ -1,45 +1,25 @@
 -- Laws of the session's definitions, over plain records. Assumes nothing.
-use mathlib.Core.Path.{_≡_, refl, sym, ap, ap₂, _∙_, subst}
+use mathlib.Core.Path.{_≡_, refl, sym, ap, _∙_}
 use mathlib.Core.Bool.{Bool, true, false, _&&_, true≢false}
 use mathlib.Core.Logic.{⊎-elim}
 use mathlib.Core.List.{List, _++_}
-use Prim.Native.Nat.{ℕ, _+_, _*_, _-_, _/_, _%_, _^_, _<_, _≤_}
+use Prim.Native.Nat.{ℕ, _+_, _-_, _/_, _%_, _<_, _≤_}
 use native.Mathlib.Nat.{zero-add}
-use native.Mathlib.Numerals.{add-one}
 use native.Mathlib.Omega.{arith}
 use borrow.Author.Tests.{eq-eqb, eqb-true, le-leb, leb-true, lt-leb, lt-ltb, ne-eqb, le-ltb}
 use lib.Dec.{leb}
-use lib.ListN.{drop, getD, getD-replicate, length, length-append, length-drop, length-replicate, replicate, set, take, take-append-drop}
-use lib.Seq.{drop-cons, drop-length, getD-drop, length-take-le, take-append-le}
+use lib.ListN.{drop, getD, getD-replicate, length, length-append, length-drop, length-replicate, replicate, take, take-append-drop}
+use lib.Seq.{getD-drop, length-take-le, take-append-le}
 use Rattle.aes_round.specs.Bytes.{tab}
-use Rattle.aes_round.proofs.Laws.Bytes.{getD-tab, is-tab, length-tab, lt-or-le, same-list}
+use Rattle.aes_round.proofs.Laws.Bytes.{getD-tab, length-tab, lt-or-le, same-list}
 use Rattle.aes_round.proofs.Laws.Fill.{Filled}
 use Rattle.echo.specs.declared.session.Answer.{Answer}
 use Rattle.echo.specs.declared.session.Session.{Session}
-use Rattle.echo.specs.Compression.{compress}
-use Rattle.echo.specs.Families.{blockSize, chainingSize, roundCount}
+use Rattle.echo.specs.Families.{blockSize, chainingSize}
 use Rattle.echo.specs.Placed.{Placed}
-use Rattle.echo.specs.Session.{addAnswer, addByte, addBytes, addRefusal, admitted, allZero, blank, compressed, finalChaining, isSession, limit, made, openAnswer, openRefusal, opened, readAnswer, readLeaves, readRefusal, sessionDigest}
-use Rattle.echo.specs.Square.{keysFrom}
+use Rattle.echo.specs.Session.{addAnswer, addBytes, addRefusal, admitted, allZero, blank, finalChaining, isSession, limit, openAnswer, openRefusal, opened, readAnswer, readLeaves, readRefusal, sessionDigest}
 use Rattle.echo.proofs.Laws.Families.{sizes}
 use Rattle.echo.proofs.Laws.Joined.{first-part, second-part}
-
-pub zeros-are : (n : ℕ) → tab n (λ k. 0) ≡ replicate n 0
-zeros-are n = sym (is-tab n (replicate n 0) _ (length-replicate n 0) (λ k h. getD-replicate n k 0 0 h))
-
--- ---- zeros
-
-pub zero-next : (xs : List ℕ) (i : ℕ) → i < length xs → getD xs i 0 ≡ 0 → allZero (drop i xs) ≡ allZero (drop (i + 1) xs)
-unfolding allZero
-zero-next xs i h z = rw (add-one, drop-cons xs i 0 h, eq-eqb _ _ z)
-
-pub zero-stop : (xs : List ℕ) (i : ℕ) → i < length xs → (getD xs i 0 ≡ 0 → ⊥) → allZero (drop i xs) ≡ false
-unfolding allZero
-zero-stop xs i h z = rw (drop-cons xs i 0 h, ne-eqb _ _ z)
-
-pub zero-end : (xs : List ℕ) (i : ℕ) → length xs ≤ i → i ≤ length xs → allZero (drop i xs) ≡ true
-unfolding allZero
-zero-end xs i h k = let e : i ≡ length xs = omega arith in rw (e, drop-length)
 
 -- ---- which records are sessions: the answers of is_session, by the tests that lead there
 
@@ -89,62 +69,6 @@ session-fits s e =
       taken-most = leb-true (s .taken) limit (t .0);
       rest-zero = u .0;
     }
-
--- ---- one byte more
-
-module _ (bits taken x at : ℕ) (salt chaining waiting : List ℕ) (e : at ≡ taken % blockSize bits) where
-  -- a byte that waits
-  pub put-more : at + 1 < blockSize bits → made bits salt chaining (taken + 1) (set waiting at x) ≡ addByte (made bits salt chaining taken waiting) x
-  unfolding addByte
-  put-more h = rw e (rw (ne-eqb (taken % blockSize bits + 1) (blockSize bits) (λ p. omega arith)) refl)
-
-  -- a byte that fills the block
-  pub put-full : (v : List ℕ) → at + 1 ≡ blockSize bits
-      → v ≡ compressed bits salt chaining (8 * (taken + 1)) (take (blockSize bits) (set waiting at x))
-      → made bits salt v (taken + 1) (replicate 192 0) ≡ addByte (made bits salt chaining taken waiting) x
-  unfolding addByte
-  put-full v h p = rw (p, e) (rw (eq-eqb (taken % blockSize bits + 1) (blockSize bits) (ap (λ (n : ℕ). n + 1) (sym e) ∙ h)) refl)
-
--- a turn of the loop over a piece, and its end
-pub add-next : (s : Session) (xs : List ℕ) (i : ℕ) → i < length xs → addBytes s (drop i xs) ≡ addBytes (addByte s (getD xs i 0)) (drop (i + 1) xs)
-unfolding addBytes
-add-next s xs i h = rw (add-one, drop-cons xs i 0 h)
-
-pub add-end : (s : Session) (xs : List ℕ) (i : ℕ) → length xs ≤ i → i ≤ length xs → addBytes s (drop i xs) ≡ s
-unfolding addBytes
-add-end s xs i h k = let e : i ≡ length xs = omega arith in rw (e, drop-length)
-
--- ---- the waiting block compressed, by sizes c and b and a round count n that the code computed
-
-module _ (bits counter c b n : ℕ) (salt v w : List ℕ) (p : c ≡ chainingSize bits) (q : b ≡ blockSize bits) (r : n ≡ roundCount c) (lv : length v ≡ 128) (lw : length w ≡ 192) where
-  c-fits : c ≤ length v
-  c-fits = let S = sizes bits in omega arith
-
-  b-fits : b ≤ length w
-  b-fits = let S = sizes bits in omega arith
-
-  pub lent-chaining : c ≡ length (take c v)
-  lent-chaining = sym (length-take-le c v c-fits)
-
-  pub lent-block : b ≡ length (take b w)
-  lent-block = sym (length-take-le b w b-fits)
-
-  pub lent-fit : counter ≤ 2 ^ 64 - 161
-      → (0 < length (take c v)) × ((length (take c v) + length (take b w) ≡ 256) × ((256 ≡ length (take c v) * (256 / length (take c v))) × (counter + 16 * n ≤ 2 ^ 64)))
-  lent-fit k =
-      let S = sizes bits in
-      let m : roundCount c ≤ 10 = subst (λ (x : ℕ). roundCount x ≤ 10) (sym p) (S .rounds-most) in (
-        omega (arith, lent-chaining),
-        (
-          omega (arith, lent-chaining, lent-block),
-          (subst (λ (x : ℕ). 256 ≡ x * (256 / x)) (sym p ∙ lent-chaining) (S .parts), omega arith),
-        ),
-      )
-
-  pub lent-compressed : (last : List ℕ) → last ≡ compress (length (take c v)) n (keysFrom counter) salt (take c v) (take b w) → last ++ drop c v ≡ compressed bits salt v counter (take (blockSize bits) w)
-  lent-compressed last e =
-      ap (λ (l : List ℕ). l ++ drop c v) (e ∙ ap₂ (λ (x y : ℕ). compress x y (keysFrom counter) salt (take c v) (take b w)) (sym lent-chaining) r)
-      ∙ ap₂ (λ (x y : ℕ). compress x (roundCount x) (keysFrom counter) salt (take x v) (take y w) ++ drop x v) p q
 
 -- ---- what adding answers
 

@@ -4,7 +4,7 @@ use Prim.Native.Nat.{_-_, _≤_}
 use lib.ListN.{drop, length}
 use borrow.Author.Needs.{needs}
 use Rattle.echo.specs.Session.{allZero}
-use Rattle.echo.proofs.Laws.Sessions.{zero-end, zero-next, zero-stop}
+use Rattle.echo.proofs.Laws.Waiting.{zero-end, zero-next, zero-stop}
 use Rattle.echo.proofs.waiting.zeros_from.Statement.{statement}
 use Rattle.echo.proofs.waiting.zeros_from.Tie as tie
 

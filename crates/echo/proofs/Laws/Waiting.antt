@@ -1,6 +1,6 @@
 -- The waiting block of a session: where its next byte stands, a byte and a piece more, and the block compressed. Assumes nothing.
 use mathlib.Core.Path.{_≡_, sym, ap, ap₂, _∙_, subst}
-use mathlib.Core.Bool.{true, false}
+use mathlib.Core.Bool.{Bool, true, false}
 use mathlib.Core.List.{List, _∷_, _++_}
 use Prim.Native.Nat.{ℕ, _+_, _*_, _-_, _/_, _%_, _^_, _<_, _≤_}
 use native.Mathlib.Nat.{add-assoc, add-zero, mod-lt}
@@ -24,17 +24,19 @@ use Rattle.echo.proofs.Laws.Families.{block-pos, sizes}
 pub zeros-are : (n : ℕ) → tab n (λ k. 0) ≡ replicate n 0
 zeros-are n = sym (is-tab n (replicate n 0) _ (length-replicate n 0) (λ k h. getD-replicate n k 0 0 h))
 
-pub zero-next : (xs : List ℕ) (i : ℕ) → i < length xs → getD xs i 0 ≡ 0 → allZero (drop i xs) ≡ allZero (drop (i + 1) xs)
-unfolding allZero
-zero-next xs i h z = rw (add-one, drop-cons xs i 0 h, eq-eqb _ _ z)
+-- r is whether the bytes from a place on are zero
+module _ (xs : List ℕ) (i : ℕ) (r : Bool) (e : allZero (drop i xs) ≡ r) where
+  pub zero-next : i < length xs → getD xs i 0 ≡ 0 → allZero (drop (i + 1) xs) ≡ r
+  unfolding allZero
+  zero-next h z = sym (rw (add-one, drop-cons xs i 0 h, eq-eqb _ _ z)) ∙ e
 
-pub zero-stop : (xs : List ℕ) (i : ℕ) → i < length xs → (getD xs i 0 ≡ 0 → ⊥) → allZero (drop i xs) ≡ false
-unfolding allZero
-zero-stop xs i h z = rw (drop-cons xs i 0 h, ne-eqb _ _ z)
+  pub zero-stop : i < length xs → (getD xs i 0 ≡ 0 → ⊥) → false ≡ r
+  unfolding allZero
+  zero-stop h z = sym (rw (drop-cons xs i 0 h, ne-eqb _ _ z)) ∙ e
 
-pub zero-end : (xs : List ℕ) (i : ℕ) → length xs ≤ i → i ≤ length xs → allZero (drop i xs) ≡ true
-unfolding allZero
-zero-end xs i h k = let e : i ≡ length xs = omega arith in rw (e, drop-length)
+  pub zero-end : length xs ≤ i → i ≤ length xs → true ≡ r
+  unfolding allZero
+  zero-end h k = let l : i ≡ length xs = omega arith in sym (rw (l, drop-length)) ∙ e
 
 -- ---- rooms that a store or a call leaves as long as they were
 

@@ -7,7 +7,7 @@ use native.Mathlib.Omega.{arith}
 use lib.ListN.{getD, length}
 use Rattle.aes_round.specs.Array.{array}
 use Rattle.aes_round.specs.Bytes.{tab}
-use Rattle.aes_round.specs.Rounds.{shiftBackFrom, shiftFrom}
+use Rattle.aes_round.specs.Rounds.{aesRound, aesRoundBack, shiftBackFrom, shiftFrom}
 use Rattle.aes_round.proofs.Laws.Array.{entry-is, is-array, tab-array}
 use Rattle.aes_round.proofs.Laws.Bytes.{getD-tab, is-tab, tab-ext}
 use Rattle.aes_round.proofs.Laws.Every.{agree}
@@ -72,6 +72,33 @@ module _ (f : ℕ → List ℕ) (l : List ℕ) where
 
       remainder : (j b : ℕ) → b < 16 → (16 * j + b) % 16 ≡ b
       remainder j b h = omega arith
+
+-- ---- BIG.SubWords and its way back: word after word goes through f, with its subkey and the salt
+
+module _ (f : List ℕ → List ℕ → List ℕ → List ℕ) (key : ℕ → List ℕ) (salt l : List ℕ) where
+  pub Through : ℕ → List ℕ → Type 0
+  Through = Words (λ i. f (word l i) (key i) salt) l
+
+  pub none-through : length l ≡ 256 → Through 0 l
+  unfolding Through
+  none-through = no-words _ l
+
+  pub next-through : (j : ℕ) (s w k t r : List ℕ) → Placed s (16 * j) t (length t) r → t ≡ f w k salt → w ≡ tab 16 (λ b. getD s (16 * j + b) 0) → k ≡ key j
+      → length t ≡ 16 → j < 16 → Through j s → Through (j + 1) r
+  unfolding Through
+  next-through j s w k t r P e p q lt h T =
+      next-word _ l j s t r T h (subst (λ (n : ℕ). Placed s (16 * j) t n r) lt P)
+      (e ∙ ap₂ (λ (x y : List ℕ). f x y salt) (p ∙ old-word _ l j s T) q)
+
+  pub all-through : (j : ℕ) (s : List ℕ) → Through j s → 16 ≤ j → s ≡ array 16 (λ i b. getD (f (word l i) (key i) salt) b 0)
+  unfolding Through
+  all-through = all-words _ l
+
+abbrev pub forth : List ℕ → List ℕ → List ℕ → List ℕ
+forth w k salt = aesRound (aesRound w k) salt
+
+abbrev pub back : List ℕ → List ℕ → List ℕ → List ℕ
+back w k salt = aesRoundBack (aesRoundBack w salt) k
 
 -- ---- BIG.ShiftRows moves words
 

@@ -27,7 +27,7 @@ use Rattle.echo.proofs.Laws.Sessions.{both}
 use Rattle.echo.proofs.Laws.Waiting.{cleared}
 
 -- a block of b bytes whose last eighteen are the lengths e
-pub closed : (b : ℕ) (w e t : List ℕ) → length w ≡ 192 → 128 ≤ b → b ≤ 192 → length e ≡ 18 → Placed w (b - 18) e 18 t → take b t ≡ take (b - 18) w ++ e
+closed : (b : ℕ) (w e t : List ℕ) → length w ≡ 192 → 128 ≤ b → b ≤ 192 → length e ≡ 18 → Placed w (b - 18) e 18 t → take b t ≡ take (b - 18) w ++ e
 closed b w e t lw least most le P =
     same-list b (take b t) (take (b - 18) w ++ e) (length-take-le b t (omega (arith, P .long))) (length-append (take (b - 18) w) e ∙ omega (arith, short, le))
     (λ k h. getD-take b t k 0 h ∙ ⊎-elim (front k) (back k h) (lt-or-le k (b - 18)))
@@ -209,6 +209,26 @@ module _ (b h n : ℕ) (w : List ℕ) (lw : length w ≡ 192) (least : 128 ≤ b
       ∙ ap (take b) (drop-at (take b (set w (n % b) 0x80)) _ b (begun-long b most))
       ∙ take-all b (replicate (b - 18) 0 ++ lengthsOf h n) (omega (arith, length-append (replicate (b - 18) 0) (lengthsOf h n), length-replicate {A = ℕ} (b - 18) 0, length-lengths h n))
       ∙ ap (λ (l : List ℕ). l ++ lengthsOf h n) (sym (take-zeros (b - 18) 192 (omega arith)))
+
+-- ---- the lengths e put into the last bytes of a block, by a block size b that the code computed
+
+module _ (h b : ℕ) (size : b ≡ blockSize h) where
+  pub lengths-fit : 18 ≤ b
+  lengths-fit = let S = sizes h in omega arith
+
+  module _ (w e : List ℕ) (lw : length w ≡ 192) (le : length e ≡ 18) where
+    pub lengths-within : b - 18 + length e ≤ length w
+    lengths-within = let S = sizes h in omega arith
+
+    pub closed-block : (n k : ℕ) (salt v t u : List ℕ) → u ≡ compressed h salt v k (take (blockSize h) t) → Placed w (b - 18) e (length e) t → e ≡ lengthsOf h n
+        → u ≡ compressed h salt v k (take (blockSize h - 18) w ++ lengthsOf h n)
+    closed-block n k salt v t u r P d =
+        let S = sizes h in
+        r
+        ∙ ap (compressed h salt v k)
+        (closed (blockSize h) w e t lw (S .block-least) (S .block-most) le
+        (subst (λ (x : ℕ). Placed w (x - 18) e 18 t) size (subst (λ (x : ℕ). Placed w (b - 18) e x t) le P))
+        ∙ ap (λ (l : List ℕ). take (blockSize h - 18) w ++ l) d)
 
 -- ---- the final chaining variable
 

@@ -168,8 +168,16 @@ module _ (h : ℕ) (salt : List ℕ) where
   pub state-is-session : (m : List ℕ) → admitted h ≡ true → length m ≤ limit → isSession (stateOf h salt m) ≡ true
   unfolding stateOf
   state-is-session m a l =
-      sym (is-clear (stateOf h salt m) a l (zeros-behind (drop (blockSize h * (length m / blockSize h)) m) (length m % blockSize h) (192 - length m % blockSize h) (length-rest (blockSize h) (block-pos h) m)))
-      ∙ zeros-behind (chained h salt m (length m / blockSize h)) (chainingSize h) (128 - chainingSize h) (length-chained m _)
+      sym (is-clear (stateOf h salt m) true (sym a) refl l (blockSize h) refl true (sym rest) refl (chainingSize h) true (sym behind) refl)
+    where
+      b : ℕ
+      b = blockSize h
+
+      rest : allZero (drop (length m % b) (drop (b * (length m / b)) m ++ replicate (192 - length m % b) 0)) ≡ true
+      rest = zeros-behind (drop (b * (length m / b)) m) (length m % b) (192 - length m % b) (length-rest b (block-pos h) m)
+
+      behind : allZero (drop (chainingSize h) (chained h salt m (length m / b) ++ replicate (128 - chainingSize h) 0)) ≡ true
+      behind = zeros-behind (chained h salt m (length m / b)) (chainingSize h) (128 - chainingSize h) (length-chained m _)
 
   pub opened-is-session : (m : List ℕ) → admitted h ≡ true → length m ≤ limit → isSession (addBytes (opened h salt) m) ≡ true
   opened-is-session m a l = ap isSession (opened-state m) ∙ state-is-session m a l

@@ -1,12 +1,12 @@
 -- Laws of the session's definitions, over plain records. Assumes nothing.
-use mathlib.Core.Path.{_≡_, refl, sym, ap, _∙_}
-use mathlib.Core.Bool.{Bool, true, false, _&&_, true≢false}
+use mathlib.Core.Path.{_≡_, refl, sym, ap, _∙_, subst}
+use mathlib.Core.Bool.{Bool, true, false, not, _&&_, true≢false}
 use mathlib.Core.Logic.{⊎-elim}
 use mathlib.Core.List.{List, _++_}
 use Prim.Native.Nat.{ℕ, _+_, _-_, _/_, _%_, _<_, _≤_}
 use native.Mathlib.Nat.{zero-add}
 use native.Mathlib.Omega.{arith}
-use borrow.Author.Tests.{eq-eqb, eqb-true, le-leb, leb-true, lt-leb, lt-ltb, ne-eqb, le-ltb}
+use borrow.Author.Tests.{eq-eqb, eqb-true, le-leb, le-ltb, leb-true, lt-leb, lt-ltb, ne-eqb, not-false, not-true}
 use lib.Dec.{leb}
 use lib.ListN.{drop, getD, getD-replicate, length, length-append, length-drop, length-replicate, replicate, take, take-append-drop}
 use lib.Seq.{getD-drop, length-take-le, take-append-le}
@@ -15,46 +15,54 @@ use Rattle.aes_round.proofs.Laws.Bytes.{getD-tab, length-tab, lt-or-le, same-li
 use Rattle.aes_round.proofs.Laws.Fill.{Filled}
 use Rattle.echo.specs.declared.session.Answer.{Answer}
 use Rattle.echo.specs.declared.session.Session.{Session}
+use Rattle.echo.specs.Digest.{initial}
 use Rattle.echo.specs.Families.{blockSize, chainingSize}
 use Rattle.echo.specs.Placed.{Placed}
-use Rattle.echo.specs.Session.{addAnswer, addBytes, addRefusal, admitted, allZero, blank, finalChaining, isSession, limit, openAnswer, openRefusal, opened, readAnswer, readLeaves, readRefusal, sessionDigest}
+use Rattle.echo.specs.Session.{addAnswer, addBytes, addRefusal, admitted, allZero, blank, finalChaining, isSession, limit, made}
+use Rattle.echo.specs.Session.{openAnswer, openRefusal, readAnswer, readLeaves, readRefusal, sessionDigest}
 use Rattle.echo.proofs.Laws.Families.{sizes}
 use Rattle.echo.proofs.Laws.Joined.{first-part, second-part}
+use Rattle.echo.proofs.Laws.Words.{sixteen-are}
 
--- ---- which records are sessions: the answers of is_session, by the tests that lead there
+-- ---- which records are sessions: the answers of is_session, by the tests a, w and v that the code made
 
-module _ (s : Session) where
-  pub is-not-admitted : admitted (s .bits) ≡ false → false ≡ isSession s
+module _ (s : Session) (a : Bool) (e : a ≡ admitted (s .bits)) where
+  pub is-not-admitted : not a ≡ true → false ≡ isSession s
   unfolding isSession
-  is-not-admitted a = rw a
+  is-not-admitted fails = rw (← e, not-true a fails)
 
-  module _ (a : admitted (s .bits) ≡ true) where
+  module _ (holds : not a ≡ false) where
     pub is-too-long : limit < s .taken → false ≡ isSession s
     unfolding isSession
-    is-too-long n = rw (a, lt-leb (s .taken) limit n)
+    is-too-long n = rw (← e, not-false a holds, lt-leb (s .taken) limit n)
 
-    module _ (n : s .taken ≤ limit) where
-      pub is-not-clear : allZero (drop (s .taken % blockSize (s .bits)) (s .waiting)) ≡ false → false ≡ isSession s
-      unfolding isSession
-      is-not-clear w = rw (a, le-leb (s .taken) limit n, w)
+    module _ (n : s .taken ≤ limit) (b : ℕ) (size : b ≡ blockSize (s .bits)) (w : Bool) (z : w ≡ allZero (drop (s .taken % b) (s .waiting))) where
+      rest-is : w ≡ allZero (drop (s .taken % blockSize (s .bits)) (s .waiting))
+      rest-is = z ∙ ap (λ (x : ℕ). allZero (drop (s .taken % x) (s .waiting))) size
 
-      pub is-clear : allZero (drop (s .taken % blockSize (s .bits)) (s .waiting)) ≡ true → allZero (drop (chainingSize (s .bits)) (s .chaining)) ≡ isSession s
+      pub is-not-clear : not w ≡ true → false ≡ isSession s
       unfolding isSession
-      is-clear w = rw (a, le-leb (s .taken) limit n, w)
+      is-not-clear fails = rw (← e, not-false a holds, le-leb (s .taken) limit n, ← rest-is, not-true w fails)
+
+      pub is-clear : not w ≡ false → (c : ℕ) (v : Bool) → v ≡ allZero (drop c (s .chaining)) → c ≡ chainingSize (s .bits) → v ≡ isSession s
+      unfolding isSession
+      is-clear clear c v q p =
+          rw (← e, not-false a holds, le-leb (s .taken) limit n, ← rest-is, not-false w clear)
+          (q ∙ ap (λ (x : ℕ). allZero (drop x (s .chaining))) p)
 
 -- a test that came out true came through each of its parts
 pub both : (a b : Bool) → (a && b) ≡ true → (a ≡ true) × (b ≡ true)
 both true b e = (refl, e)
 both false b e = absurd (true≢false (sym e))
 
-pub record SessionFits (s : Session) : Type 0 where
-  pub bits-least : 128 ≤ s .bits
-  pub bits-most : s .bits ≤ 512
-  pub bits-whole : s .bits % 8 ≡ 0
-  pub taken-most : s .taken ≤ limit
-  pub rest-zero : allZero (drop (s .taken % blockSize (s .bits)) (s .waiting)) ≡ true
+record SessionFits (s : Session) : Type 0 where
+  bits-least : 128 ≤ s .bits
+  bits-most : s .bits ≤ 512
+  bits-whole : s .bits % 8 ≡ 0
+  taken-most : s .taken ≤ limit
+  rest-zero : allZero (drop (s .taken % blockSize (s .bits)) (s .waiting)) ≡ true
 
-pub session-fits : (s : Session) → isSession s ≡ true → SessionFits s
+session-fits : (s : Session) → isSession s ≡ true → SessionFits s
 unfolding isSession admitted
 session-fits s e =
     let p = both (admitted (s .bits)) _ e in
@@ -70,20 +78,41 @@ session-fits s e =
       rest-zero = u .0;
     }
 
+-- what code that found a session by the test a knows of it
+module _ (s : Session) (a : Bool) (e : a ≡ isSession s) (holds : not a ≡ false) where
+  is-one : isSession s ≡ true
+  is-one = sym e ∙ not-false a holds
+
+  fits : SessionFits s
+  fits = session-fits s is-one
+
+  pub taken-most : s .taken ≤ limit
+  taken-most = fits .taken-most
+
+  pub bits-most : s .bits ≤ 512
+  bits-most = fits .bits-most
+
+  pub rest-zero : allZero (drop (s .taken % blockSize (s .bits)) (s .waiting)) ≡ true
+  rest-zero = fits .rest-zero
+
 -- ---- what adding answers
 
-module _ (s : Session) (piece : List ℕ) where
-  pub added-none : isSession s ≡ false → _≡_ {A = Answer} (record { refusal = 3; session = s }) (addAnswer s piece)
+module _ (s : Session) (piece : List ℕ) (a : Bool) (e : a ≡ isSession s) where
+  pub added-none : not a ≡ true → _≡_ {A = Answer} (record { refusal = 3; session = s }) (addAnswer s piece)
   unfolding addAnswer addRefusal
-  added-none a = rw a
+  added-none fails = rw (← e, not-true a fails)
 
-  pub added-much : isSession s ≡ true → limit < s .taken + length piece → _≡_ {A = Answer} (record { refusal = 4; session = s }) (addAnswer s piece)
-  unfolding addAnswer addRefusal
-  added-much a n = rw (a, lt-ltb limit (s .taken + length piece) n)
+  module _ (holds : not a ≡ false) where
+    pub added-much : limit - s .taken < length piece → _≡_ {A = Answer} (record { refusal = 4; session = s }) (addAnswer s piece)
+    unfolding addAnswer addRefusal
+    added-much n = rw (is-one s a e holds, lt-ltb limit (s .taken + length piece) (omega (arith, taken-most s a e holds)))
 
-  pub added : (r : Session) → isSession s ≡ true → s .taken + length piece ≤ limit → r ≡ addBytes s piece → _≡_ {A = Answer} (record { refusal = 0; session = r }) (addAnswer s piece)
-  unfolding addAnswer addRefusal
-  added r a n e = rw (a, le-ltb limit (s .taken + length piece) n, e)
+    pub adds : length piece ≤ limit - s .taken → s .taken + length piece ≤ limit
+    adds n = omega (arith, taken-most s a e holds)
+
+    pub added : (r : Session) → r ≡ addBytes s piece → length piece ≤ limit - s .taken → _≡_ {A = Answer} (record { refusal = 0; session = r }) (addAnswer s piece)
+    unfolding addAnswer addRefusal
+    added r d n = rw (is-one s a e holds, le-ltb limit (s .taken + length piece) (adds n), d)
 
 -- ---- opening
 
@@ -107,43 +136,29 @@ filled-front n i f r F =
         F .rest k g ∙ getD-replicate n k 0 0 h
         ∙ sym (ap (λ (x : ℕ). getD (tab i f ++ replicate (n - i) 0) x 0) (sym (on k g)) ∙ second-part i (tab i f) (replicate (n - i) 0) (length-tab i f) (k - i) ∙ getD-replicate (n - i) (k - i) 0 0 (left k h g))
 
-module _ (h : ℕ) (salt : List ℕ) where
-  pub open-1 : admitted h ≡ false → _≡_ {A = Answer} (record { refusal = 1; session = blank }) (openAnswer h salt)
+module _ (h : ℕ) (salt : List ℕ) (a : Bool) (e : a ≡ admitted h) where
+  pub open-1 : not a ≡ true → (s : Session) → s ≡ blank → _≡_ {A = Answer} (record { refusal = 1; session = s }) (openAnswer h salt)
   unfolding openAnswer openRefusal
-  open-1 a = rw a
+  open-1 fails s b = rw (← e, not-true a fails, b)
 
-  module _ (a : admitted h ≡ true) where
-    pub open-2 : (length salt ≡ 16 → ⊥) → _≡_ {A = Answer} (record { refusal = 2; session = blank }) (openAnswer h salt)
+  module _ (holds : not a ≡ false) where
+    pub admitted-most : h ≤ 512
+    unfolding admitted
+    admitted-most = leb-true h 512 (both (leb h 512) _ (both (leb 128 h) _ (sym e ∙ not-false a holds) .1) .0)
+
+    pub open-2 : (length salt ≡ 16 → ⊥) → (s : Session) → s ≡ blank → _≡_ {A = Answer} (record { refusal = 2; session = s }) (openAnswer h salt)
     unfolding openAnswer openRefusal
-    open-2 l = rw (a, ne-eqb (length salt) 16 l)
+    open-2 l s b = rw (← e, not-false a holds, ne-eqb (length salt) 16 l, b)
 
-    pub open-0 : length salt ≡ 16 → (s : Session) → s ≡ opened h salt → _≡_ {A = Answer} (record { refusal = 0; session = s }) (openAnswer h salt)
+    pub open-0 : length salt ≡ 16 → (own v : List ℕ) → own ≡ tab 16 (λ k. getD salt (0 + k) 0) → v ≡ initial (chainingSize h) h ++ replicate (128 - chainingSize h) 0
+        → _≡_ {A = Answer} (record { refusal = 0; session = made h own v 0 (replicate 192 0) }) (openAnswer h salt)
     unfolding openAnswer openRefusal
-    open-0 l s e = rw (a, eq-eqb (length salt) 16 l, e)
-
-pub admitted-most : (h : ℕ) → admitted h ≡ true → h ≤ 512
-unfolding admitted
-admitted-most h e = leb-true h 512 (both (leb h 512) _ (both (leb 128 h) _ e .1) .0)
+    open-0 l own v o c = rw (← e, not-false a holds, eq-eqb (length salt) 16 l, o ∙ sixteen-are salt l, c)
 
 -- ---- reading
 
-module _ (s : Session) (room : List ℕ) where
-  pub read-3 : isSession s ≡ false → (_≡_ {A = Answer} (record { refusal = 3; session = s }) (readAnswer s (length room))) × (room ≡ readLeaves s room)
-  unfolding readAnswer readLeaves readRefusal
-  read-3 a = (rw a, rw a)
-
-  module _ (a : isSession s ≡ true) where
-    pub read-5 : length room < s .bits / 8 → (_≡_ {A = Answer} (record { refusal = 5; session = s }) (readAnswer s (length room))) × (room ≡ readLeaves s room)
-    unfolding readAnswer readLeaves readRefusal
-    read-5 l = (rw (a, lt-ltb (length room) (s .bits / 8) l), rw (a, lt-ltb (length room) (s .bits / 8) l))
-
-    pub read-0 : s .bits / 8 ≤ length room → (r : List ℕ) → r ≡ sessionDigest s ++ drop (s .bits / 8) room
-        → (_≡_ {A = Answer} (record { refusal = 0; session = s }) (readAnswer s (length room))) × (r ≡ readLeaves s room)
-    unfolding readAnswer readLeaves readRefusal
-    read-0 l r e = (rw (a, le-ltb (length room) (s .bits / 8) l), rw (a, le-ltb (length room) (s .bits / 8) l) e)
-
 -- the first n bytes of the chaining room are those of the chaining variable
-pub cut : (s : Session) (v : List ℕ) → length v ≡ 128 → s .bits ≤ 512 → take (chainingSize (s .bits)) v ≡ finalChaining s → take (s .bits / 8) v ≡ sessionDigest s
+cut : (s : Session) (v : List ℕ) → length v ≡ 128 → s .bits ≤ 512 → take (chainingSize (s .bits)) v ≡ finalChaining s → take (s .bits / 8) v ≡ sessionDigest s
 unfolding sessionDigest
 cut s v l h e =
     let S = sizes (s .bits) in
@@ -152,7 +167,7 @@ cut s v l h e =
     ∙ ap (take (s .bits / 8)) e
 
 -- bytes placed at the front of room
-pub placed-front : (room w r : List ℕ) (n : ℕ) → length w ≡ n → n ≤ length room → Placed room 0 w n r → r ≡ w ++ drop n room
+placed-front : (room w r : List ℕ) (n : ℕ) → length w ≡ n → n ≤ length room → Placed room 0 w n r → r ≡ w ++ drop n room
 placed-front room w r n lw l P =
     same-list (length room) r (w ++ drop n room) (P .long) (length-append w (drop n room) ∙ omega (arith, lw, length-drop n room))
     (λ k h. ⊎-elim (front k) (rest k) (lt-or-le k n))
@@ -167,3 +182,48 @@ placed-front room w r n lw l P =
     rest k g =
         P .behind k (omega arith) ∙ ap (λ (i : ℕ). getD room i 0) (sym (on k g)) ∙ sym (getD-drop n room (k - n) 0)
         ∙ sym (ap (λ (i : ℕ). getD (w ++ drop n room) i 0) (sym (on k g)) ∙ second-part n w (drop n room) lw (k - n))
+
+module _ (s : Session) (room : List ℕ) (a : Bool) (e : a ≡ isSession s) where
+  pub read-3 : not a ≡ true → _≡_ {A = Answer} (record { refusal = 3; session = s }) (readAnswer s (length room))
+  unfolding readAnswer readRefusal
+  read-3 fails = rw (← e, not-true a fails)
+
+  pub left-3 : not a ≡ true → room ≡ readLeaves s room
+  unfolding readLeaves readRefusal
+  left-3 fails = rw (← e, not-true a fails)
+
+  module _ (holds : not a ≡ false) where
+    pub read-5 : length room < s .bits / 8 → _≡_ {A = Answer} (record { refusal = 5; session = s }) (readAnswer s (length room))
+    unfolding readAnswer readRefusal
+    read-5 l = rw (← e, not-false a holds, lt-ltb (length room) (s .bits / 8) l)
+
+    pub left-5 : length room < s .bits / 8 → room ≡ readLeaves s room
+    unfolding readLeaves readRefusal
+    left-5 l = rw (← e, not-false a holds, lt-ltb (length room) (s .bits / 8) l)
+
+    pub read-0 : s .bits / 8 ≤ length room → _≡_ {A = Answer} (record { refusal = 0; session = s }) (readAnswer s (length room))
+    unfolding readAnswer readRefusal
+    read-0 l = rw (← e, not-false a holds, le-ltb (length room) (s .bits / 8) l)
+
+    pub left-0 : s .bits / 8 ≤ length room → (r : List ℕ) → r ≡ sessionDigest s ++ drop (s .bits / 8) room → r ≡ readLeaves s room
+    unfolding readLeaves readRefusal
+    left-0 l r d = rw (← e, not-false a holds, le-ltb (length room) (s .bits / 8) l) d
+
+    -- v is the chaining room when the last blocks are taken: its front is the digest
+    module _ (v : List ℕ) (kept : length v ≡ length (s .chaining)) (chains : length (s .chaining) ≡ 128) where
+      pub digest-within : s .bits / 8 ≤ length v
+      digest-within = omega (arith, bits-most s a e holds)
+
+      pub digest-long : s .bits / 8 ≡ length (take (s .bits / 8) v)
+      digest-long = sym (length-take-le (s .bits / 8) v digest-within)
+
+      module _ (l : s .bits / 8 ≤ length room) where
+        pub digest-fits : 0 + length (take (s .bits / 8) v) ≤ length room
+        digest-fits = omega (arith, digest-long)
+
+        pub left-digest : (r : List ℕ) → Placed room 0 (take (s .bits / 8) v) (length (take (s .bits / 8) v)) r → take (chainingSize (s .bits)) v ≡ finalChaining s → r ≡ readLeaves s room
+        left-digest r P f =
+            left-0 l r
+            (placed-front room (take (s .bits / 8) v) r (s .bits / 8) (sym digest-long) l
+            (subst (λ (k : ℕ). Placed room 0 (take (s .bits / 8) v) k r) (sym digest-long) P)
+            ∙ ap (λ (d : List ℕ). d ++ drop (s .bits / 8) room) (cut s v (kept ∙ chains) (bits-most s a e holds) f))

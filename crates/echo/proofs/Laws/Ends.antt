@@ -24,7 +24,7 @@ use Rattle.echo.proofs.Laws.Counting.{div-on, mod-on}
 use Rattle.echo.proofs.Laws.Families.{sizes}
 use Rattle.echo.proofs.Laws.Joined.{first-part, second-part}
 use Rattle.echo.proofs.Laws.Sessions.{both}
-use Rattle.echo.proofs.Laws.Waiting.{cleared}
+use Rattle.echo.proofs.Laws.Placed.{cleared}
 
 -- a block of b bytes whose last eighteen are the lengths e
 closed : (b : ℕ) (w e t : List ℕ) → length w ≡ 192 → 128 ≤ b → b ≤ 192 → length e ≡ 18 → Placed w (b - 18) e 18 t → take b t ≡ take (b - 18) w ++ e

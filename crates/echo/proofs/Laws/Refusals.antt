@@ -5,7 +5,7 @@ use mathlib.Core.Logic.{_⊎_, inl, inr, ⊎-elim}
 use mathlib.Core.List.{List, [], _∷_}
 use Prim.Native.Nat.{ℕ, zero, suc, _+_, _*_, _/_, _-_, _^_, _<_, _≤_}
 use native.Mathlib.Omega.{arith}
-use borrow.Author.Tests.{eq-eqb, eqb-true, le-ltb, lt-ltb, ltb-false, ne-eqb, not-false}
+use borrow.Author.Tests.{eq-eqb, eqb-true, le-ltb, lt-ltb, ltb-false, ne-eqb, not-false, not-true}
 use lib.Dec.{eqb, ltb}
 use lib.ListN.{getD, length}
 use Rattle.aes_round.specs.Bytes.{tab}
@@ -36,18 +36,18 @@ module _ (square count counter salt : ℕ) where
     rounds-6-square q = simp (eq-eqb salt 16 s, ne-eqb square 256 q)
 
     module _ (q : square ≡ 256) where
-      pub rounds-6-count : (eqb count 8 || eqb count 10) ≡ false → 6 ≡ roundsRefusal square count counter salt
-      unfolding roundsRefusal
-      rounds-6-count n = simp (eq-eqb salt 16 s, eq-eqb square 256 q, n)
-
-      module _ (n : (eqb count 8 || eqb count 10) ≡ true) where
-        pub rounds-7 : 2 ^ 64 - 161 < counter → 7 ≡ roundsRefusal square count counter salt
+      module _ (t : Bool) (e : t ≡ (eqb count 8 || eqb count 10)) where
+        pub rounds-6-count : not t ≡ true → 6 ≡ roundsRefusal square count counter salt
         unfolding roundsRefusal
-        rounds-7 k = simp (eq-eqb salt 16 s, eq-eqb square 256 q, n, lt-ltb (2 ^ 64 - 161) counter k)
+        rounds-6-count n = simp (eq-eqb salt 16 s, eq-eqb square 256 q, sym e ∙ not-true t n)
 
-        pub rounds-0 : counter ≤ 2 ^ 64 - 161 → 0 ≡ roundsRefusal square count counter salt
+        pub rounds-7 : not t ≡ false → 2 ^ 64 - 161 < counter → 7 ≡ roundsRefusal square count counter salt
         unfolding roundsRefusal
-        rounds-0 k = simp (eq-eqb salt 16 s, eq-eqb square 256 q, n, le-ltb (2 ^ 64 - 161) counter k)
+        rounds-7 n k = simp (eq-eqb salt 16 s, eq-eqb square 256 q, sym e ∙ not-false t n, lt-ltb (2 ^ 64 - 161) counter k)
+
+        pub rounds-0 : not t ≡ false → counter ≤ 2 ^ 64 - 161 → 0 ≡ roundsRefusal square count counter salt
+        unfolding roundsRefusal
+        rounds-0 n k = simp (eq-eqb salt 16 s, eq-eqb square 256 q, sym e ∙ not-false t n, le-ltb (2 ^ 64 - 161) counter k)
 
 -- ---- compression
 
@@ -57,18 +57,18 @@ module _ (chaining block counter salt : ℕ) where
   compress-2 s = simp (ne-eqb salt 16 s)
 
   module _ (s : salt ≡ 16) where
-    pub compress-6 : sizesFit chaining block ≡ false → 6 ≡ compressRefusal chaining block counter salt
-    unfolding compressRefusal
-    compress-6 n = simp (eq-eqb salt 16 s, n)
-
-    module _ (n : sizesFit chaining block ≡ true) where
-      pub compress-7 : 2 ^ 64 - 161 < counter → 7 ≡ compressRefusal chaining block counter salt
+    module _ (t : Bool) (e : t ≡ sizesFit chaining block) where
+      pub compress-6 : not t ≡ true → 6 ≡ compressRefusal chaining block counter salt
       unfolding compressRefusal
-      compress-7 k = simp (eq-eqb salt 16 s, n, lt-ltb (2 ^ 64 - 161) counter k)
+      compress-6 n = simp (eq-eqb salt 16 s, sym e ∙ not-true t n)
 
-      pub compress-0 : counter ≤ 2 ^ 64 - 161 → 0 ≡ compressRefusal chaining block counter salt
+      pub compress-7 : not t ≡ false → 2 ^ 64 - 161 < counter → 7 ≡ compressRefusal chaining block counter salt
       unfolding compressRefusal
-      compress-0 k = simp (eq-eqb salt 16 s, n, le-ltb (2 ^ 64 - 161) counter k)
+      compress-7 n k = simp (eq-eqb salt 16 s, sym e ∙ not-false t n, lt-ltb (2 ^ 64 - 161) counter k)
+
+      pub compress-0 : not t ≡ false → counter ≤ 2 ^ 64 - 161 → 0 ≡ compressRefusal chaining block counter salt
+      unfolding compressRefusal
+      compress-0 n k = simp (eq-eqb salt 16 s, sym e ∙ not-false t n, le-ltb (2 ^ 64 - 161) counter k)
 
 -- ---- what no refusal means
 

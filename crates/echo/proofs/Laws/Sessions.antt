@@ -8,11 +8,10 @@ use native.Mathlib.Nat.{zero-add}
 use native.Mathlib.Omega.{arith}
 use borrow.Author.Tests.{eq-eqb, eqb-true, le-leb, le-ltb, leb-true, lt-leb, lt-ltb, ne-eqb, not-false, not-true}
 use lib.Dec.{leb}
-use lib.ListN.{drop, getD, getD-replicate, length, length-append, length-drop, length-replicate, replicate, take, take-append-drop}
+use lib.ListN.{drop, getD, length, length-append, length-drop, replicate, take, take-append-drop}
 use lib.Seq.{getD-drop, length-take-le, take-append-le}
 use Rattle.aes_round.specs.Bytes.{tab}
-use Rattle.aes_round.proofs.Laws.Bytes.{getD-tab, length-tab, lt-or-le, same-list}
-use Rattle.aes_round.proofs.Laws.Fill.{Filled}
+use Rattle.aes_round.proofs.Laws.Bytes.{lt-or-le, same-list}
 use Rattle.echo.specs.declared.session.Answer.{Answer}
 use Rattle.echo.specs.declared.session.Session.{Session}
 use Rattle.echo.specs.Digest.{initial}
@@ -115,26 +114,6 @@ module _ (s : Session) (piece : List ℕ) (a : Bool) (e : a ≡ isSession s) whe
     added r d n = rw (is-one s a e holds, le-ltb limit (s .taken + length piece) (adds n), d)
 
 -- ---- opening
-
--- room that is filled from the front, with zeros behind
-pub filled-front : (n i : ℕ) (f : ℕ → ℕ) (r : List ℕ) → Filled n f (replicate n 0) i r → r ≡ tab i f ++ replicate (n - i) 0
-filled-front n i f r F =
-    same-list n r (tab i f ++ replicate (n - i) 0) (F .long) (length-append (tab i f) (replicate (n - i) 0) ∙ omega (arith, length-tab i f, length-replicate {A = ℕ} (n - i) 0, F .in-reach))
-    (λ k h. ⊎-elim (front k) (rest k h) (lt-or-le k i))
-  where
-    front : (k : ℕ) → k < i → getD r k 0 ≡ getD (tab i f ++ replicate (n - i) 0) k 0
-    front k l = F .done k l ∙ sym (first-part i (tab i f) (replicate (n - i) 0) (length-tab i f) k l ∙ getD-tab i f k l)
-
-    on : (k : ℕ) → i ≤ k → i + (k - i) ≡ k
-    on k g = omega arith
-
-    left : (k : ℕ) → k < n → i ≤ k → k - i < n - i
-    left k h g = omega arith
-
-    rest : (k : ℕ) → k < n → i ≤ k → getD r k 0 ≡ getD (tab i f ++ replicate (n - i) 0) k 0
-    rest k h g =
-        F .rest k g ∙ getD-replicate n k 0 0 h
-        ∙ sym (ap (λ (x : ℕ). getD (tab i f ++ replicate (n - i) 0) x 0) (sym (on k g)) ∙ second-part i (tab i f) (replicate (n - i) 0) (length-tab i f) (k - i) ∙ getD-replicate (n - i) (k - i) 0 0 (left k h g))
 
 module _ (h : ℕ) (salt : List ℕ) (a : Bool) (e : a ≡ admitted h) where
   pub open-1 : not a ≡ true → (s : Session) → s ≡ blank → _≡_ {A = Answer} (record { refusal = 1; session = s }) (openAnswer h salt)

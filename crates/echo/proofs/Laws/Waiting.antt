@@ -7,7 +7,7 @@ use native.Mathlib.Nat.{add-assoc, add-zero, mod-lt}
 use native.Mathlib.Numerals.{add-one}
 use native.Mathlib.Omega.{arith}
 use borrow.Author.Tests.{eq-eqb, ne-eqb}
-use lib.ListN.{drop, getD, getD-replicate, length, length-replicate, length-set, replicate, set, take}
+use lib.ListN.{drop, getD, getD-replicate, length, length-replicate, replicate, set, take}
 use lib.Seq.{drop-cons, drop-length, length-take-le}
 use Rattle.aes_round.specs.Bytes.{tab}
 use Rattle.aes_round.proofs.Laws.Bytes.{is-tab}
@@ -37,17 +37,6 @@ module _ (xs : List ℕ) (i : ℕ) (r : Bool) (e : allZero (drop i xs) ≡ r) wh
   pub zero-end : length xs ≤ i → i ≤ length xs → true ≡ r
   unfolding allZero
   zero-end h k = let l : i ≡ length xs = omega arith in sym (rw (l, drop-length)) ∙ e
-
--- ---- rooms that a store or a call leaves as long as they were
-
-pub as-long : (v u : List ℕ) (m : ℕ) → length v ≡ m → length u ≡ m → length v ≡ length u
-as-long v u m e l = e ∙ sym l
-
-pub length-after : (w u : List ℕ) (i x m : ℕ) → length u ≡ length (set w i x) → length w ≡ m → length u ≡ m
-length-after w u i x m e l = e ∙ length-set w i x ∙ l
-
-pub cleared : (w z : List ℕ) (i x m : ℕ) → z ≡ replicate (length (set w i x)) 0 → length w ≡ m → z ≡ replicate m 0
-cleared w z i x m e l = e ∙ ap (λ (n : ℕ). replicate n 0) (length-set w i x ∙ l)
 
 -- ---- the place of the next byte, by a block size b that the code computed
 

@@ -2,7 +2,8 @@
 use mathlib.Core.Path.{_∙_}
 use borrow.Author.Needs.{needs, set-long}
 use Rattle.echo.proofs.Laws.Ends.{counter-fits, one-left, two-left}
-use Rattle.echo.proofs.Laws.Waiting.{length-after, padding-fits, place-in, some-block}
+use Rattle.echo.proofs.Laws.Waiting.{padding-fits, place-in, some-block}
+use Rattle.echo.proofs.Laws.Placed.{length-after}
 use Rattle.echo.proofs.last_blocks.finish.Statement.{statement}
 use Rattle.echo.proofs.last_blocks.finish.Tie as tie
 

@@ -3,7 +3,8 @@ use mathlib.Core.Path.{_≡_}
 use Prim.Native.Nat.{_-_}
 use lib.ListN.{length}
 use borrow.Author.Needs.{needs}
-use Rattle.echo.proofs.Laws.Waiting.{Absorbed, absorb-all, absorb-more, absorb-none, as-long, some-block}
+use Rattle.echo.proofs.Laws.Waiting.{Absorbed, absorb-all, absorb-more, absorb-none, some-block}
+use Rattle.echo.proofs.Laws.Placed.{as-long}
 use Rattle.echo.proofs.waiting.absorb.Statement.{statement}
 use Rattle.echo.proofs.waiting.absorb.Tie as tie
 

@@ -1,6 +1,7 @@
 -- `put` meets its contract: the byte waits, or fills the block. Assumes nothing.
 use borrow.Author.Needs.{needs, set-long}
-use Rattle.echo.proofs.Laws.Waiting.{cleared, first-place, length-after, next-place, next-fits, place-within, put-full, put-more}
+use Rattle.echo.proofs.Laws.Waiting.{first-place, next-place, next-fits, place-within, put-full, put-more}
+use Rattle.echo.proofs.Laws.Placed.{cleared, length-after}
 use Rattle.echo.proofs.waiting.put.Statement.{statement}
 use Rattle.echo.proofs.waiting.put.Tie as tie
 

@@ -10,6 +10,8 @@ pub mod Compression
 pub mod Marked
 pub mod Counting
 pub mod Families
+pub mod Initial
+pub mod Waiting
 pub mod Sessions
 pub mod Ends
 pub mod Stream

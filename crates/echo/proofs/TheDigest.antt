@@ -97,5 +97,5 @@ module _ (h : ℕ) (salt : List ℕ) (a : admitted h ≡ true) (l : length salt 
       → (digestRefusal h (length salt) (length message) (length room) ≡ 0) × (digestLeaves h salt message room ≡ digestOf h salt message ++ drop (h / 8) room)
   unfolding digestLeaves
   at-once-is-the-digest message room m r =
-      let n = sym (digest-0 h (length salt) (length message) (length room) a l m r) in
+      let n = sym (digest-0 h (length salt) (length message) (length room) true (sym a) refl l m r) in
       (n, done _ (digestOf h salt message ++ drop (h / 8) room) room n)

@@ -2,7 +2,7 @@
 use mathlib.Core.Path.{_≡_, refl, sym, ap, _∙_, subst}
 use mathlib.Core.Logic.{⊎-elim}
 use mathlib.Core.List.{List, [], _∷_, _++_}
-use Prim.Native.Nat.{ℕ, zero, suc, _+_, _*_, _/_, _%_, _<_, _≤_}
+use Prim.Native.Nat.{ℕ, zero, suc, _+_, _*_, _-_, _/_, _%_, _<_, _≤_}
 use native.Mathlib.Nat.{eq-or-lt-of-le, le-of-suc-le-suc, mod-lt, not-suc-le-zero, zero-add}
 use native.Mathlib.Omega.{arith}
 use lib.Dec.{lit<, lit≤}
@@ -71,7 +71,7 @@ module _ (m c₀ : List ℕ) where
   mixed-none l = record { long = l; reach = omega arith; done = λ q x hq hx. absurd (not-suc-le-zero hx); rest = λ k h. refl }
 
   -- the column at the position b is still the old one
-  pub old-column : (b : ℕ) (c : List ℕ) → Mixed b c → b < 16 → columnAt c b ≡ columnAt c₀ b
+  old-column : (b : ℕ) (c : List ℕ) → Mixed b c → b < 16 → columnAt c b ≡ columnAt c₀ b
   old-column b c M h = four (M .rest b (omega arith)) (M .rest (16 + b) (omega arith)) (M .rest (32 + b) (omega arith)) (M .rest (48 + b) (omega arith))
     where
       four : {x y z w x′ y′ z′ w′ : ℕ} → x ≡ x′ → y ≡ y′ → z ≡ z′ → w ≡ w′ → x ∷ y ∷ z ∷ w ∷ [] ≡ x′ ∷ y′ ∷ z′ ∷ w′ ∷ []
@@ -99,11 +99,11 @@ module _ (m c₀ : List ℕ) where
       last x hx = omega arith
 
   -- a turn, with the four stores as the code writes them
-  pub mixed-more : (b : ℕ) (c v : List ℕ) → Mixed b c → b < 16 → v ≡ mixColumn m (columnAt c₀ b)
+  pub mixed-more : (b : ℕ) (c v : List ℕ) → v ≡ mixColumn m (columnAt c b) → Mixed b c → b < 16
       → Mixed (b + 1) (set (set (set (set c b (getD v 0 0)) (16 + b) (getD v 1 0)) (32 + b) (getD v 2 0)) (48 + b) (getD v 3 0))
-  mixed-more b c v M h e =
+  mixed-more b c v e M h =
       subst (λ (i : ℕ). Mixed (b + 1) (set (set (set (set c i (getD v 0 0)) (16 + b) (getD v 1 0)) (32 + b) (getD v 2 0)) (48 + b) (getD v 3 0))) (zero-add b)
-      (mixed-put b c v M h e)
+      (mixed-put b c v M h (e ∙ ap (mixColumn m) (old-column b c M h)))
 
   pub mixed-all : (b : ℕ) (c : List ℕ) → Mixed b c → 16 ≤ b → c ≡ mixWords m c₀
   unfolding mixWords
@@ -123,6 +123,13 @@ length-mix-words m c = length-tab 64 _
 three : (f : ℕ → ℕ → ℕ → ℕ) {x y z x′ y′ z′ : ℕ} → x ≡ x′ → y ≡ y′ → z ≡ z′ → f x y z ≡ f x′ y′ z′
 three f p q r = cc
 
+-- the part of s that the code lends, from 64 j to 64 j + 64, and s when the callee has left w there
+abbrev part : ℕ → List ℕ → List ℕ
+part j s = take (64 * j + 64 - 64 * j) (drop (64 * j) s)
+
+abbrev turned : ℕ → List ℕ → List ℕ → List ℕ
+turned j s w = take (64 * j) s ++ (w ++ drop (64 * j + 64 - 64 * j) (drop (64 * j) s))
+
 module _ (m l : List ℕ) where
   mixedByte : ℕ → ℕ
   mixedByte k = getD (mixColumn m (column 16 l (k / 64) (k % 16))) (k / 16 % 4) 0
@@ -135,7 +142,7 @@ module _ (m l : List ℕ) where
   unfolding Columns
   no-columns = fill-none 256 mixedByte l
 
-  pub next-column : (j : ℕ) (s c t : List ℕ) → Columns j s → j < 4 → Placed s (64 * j) (mixWords m c) 64 t → ((k : ℕ) → k < 64 → getD c k 0 ≡ getD s (64 * j + k) 0) → Columns (j + 1) t
+  next-column : (j : ℕ) (s c t : List ℕ) → Columns j s → j < 4 → Placed s (64 * j) (mixWords m c) 64 t → ((k : ℕ) → k < 64 → getD c k 0 ≡ getD s (64 * j + k) 0) → Columns (j + 1) t
   unfolding Columns mixedByte mixWords
   next-column j s c t F h P e =
       subst (λ (k : ℕ). Filled 256 mixedByte l k t) (steps j)
@@ -188,19 +195,19 @@ module _ (m l : List ℕ) where
       row : (e b : ℕ) → b < 16 → (16 * e + b) / 16 % 4 ≡ e % 4
       row e b h = omega arith
 
-  -- a turn: the callee mixed the part that it was lent, of n bytes
-  pub next-part : (j : ℕ) (s w : List ℕ) (n : ℕ) → n ≡ 64 → length s ≡ 256 → j < 4 → Columns j s → w ≡ mixWords m (take n (drop (64 * j) s))
-      → (length (take (64 * j) s ++ (w ++ drop n (drop (64 * j) s))) ≡ 256) × Columns (j + 1) (take (64 * j) s ++ (w ++ drop n (drop (64 * j) s)))
-  next-part j s w n p l h F e = (P .long ∙ l, next-column j s c t F h Q (λ k hk. getD-take n (drop (64 * j) s) k 0 (subst (λ (i : ℕ). k < i) (sym p) hk) ∙ getD-drop (64 * j) s k 0))
-    where
-      c : List ℕ
-      c = take n (drop (64 * j) s)
+  module _ (j : ℕ) (s w : List ℕ) (F : Columns j s) (h : j < 4) (ls : length s ≡ 256) (e : w ≡ mixWords m (part j s)) where
+    size : 64 * j + 64 - 64 * j ≡ 64
+    size = omega arith
 
-      t : List ℕ
-      t = take (64 * j) s ++ (w ++ drop n (drop (64 * j) s))
+    placed : Placed s (64 * j) w (64 * j + 64 - 64 * j) (turned j s w)
+    placed = part-placed s w (64 * j) (64 * j + 64 - 64 * j) (omega arith) (ap length e ∙ length-mix-words m (part j s) ∙ sym size)
 
-      P : Placed s (64 * j) w n t
-      P = part-placed s w (64 * j) n (omega arith) (ap length e ∙ length-mix-words m c ∙ sym p)
+    pub turn-long : length (turned j s w) ≡ 256
+    turn-long = placed .long ∙ ls
 
-      Q : Placed s (64 * j) (mixWords m c) 64 t
-      Q = subst (λ (i : ℕ). Placed s (64 * j) (mixWords m c) i t) p (subst (λ (v : List ℕ). Placed s (64 * j) v n t) e P)
+    pub turn-mixes : Columns (j + 1) (turned j s w)
+    turn-mixes =
+        next-column j s (part j s) (turned j s w) F h
+        (subst (λ (i : ℕ). Placed s (64 * j) (mixWords m (part j s)) i (turned j s w)) size
+        (subst (λ (v : List ℕ). Placed s (64 * j) v (64 * j + 64 - 64 * j) (turned j s w)) e placed))
+        (λ k hk. getD-take (64 * j + 64 - 64 * j) (drop (64 * j) s) k 0 (omega arith) ∙ getD-drop (64 * j) s k 0)

@@ -2,11 +2,12 @@
 use mathlib.Core.Path.{_≡_, refl, sym, ap, ap₂, _∙_}
 use mathlib.Core.Logic.{⊎-elim}
 use mathlib.Core.List.{List, _++_}
-use Prim.Native.Nat.{ℕ, zero, suc, _+_, _*_, _/_, _-_, _<_, _≤_}
+use Prim.Native.Nat.{ℕ, zero, suc, _+_, _*_, _/_, _-_, _^_, _<_, _≤_}
 use native.Mathlib.Nat.{add-comm, mul-div-cancel-left, mul-le-mul-left, mul-suc, mul-zero, not-suc-le-zero, zero-add}
 use native.Mathlib.Numerals.{add-one}
 use native.Mathlib.Omega.{arith}
-use lib.ListN.{getD, length, length-append}
+use lib.ListN.{drop, getD, length, length-append, take}
+use lib.Seq.{getD-drop, getD-take}
 use Rattle.aes_round.specs.Bytes.{tab, xor, xorBytes}
 use Rattle.aes_round.proofs.Laws.Bytes.{getD-tab, length-tab, lt-or-le, same-list, tab-ext}
 use Rattle.aes_round.proofs.Laws.Xor.{getD-xor, length-xor, xor-assoc, xor-zero-l, xor-zero-r}
@@ -17,9 +18,16 @@ use Rattle.echo.proofs.Laws.Joined.{first-part, second-part}
 
 -- ---- the loop over parts
 
--- part j of n ends within them all
-pub part-end : (c j n : ℕ) → j < n → c * j + c ≤ c * n
-part-end c j n h = omega (arith, mul-suc c j, mul-le-mul-left c h)
+-- part j of the n that src has
+module _ (c j n : ℕ) (src : List ℕ) (l : length src ≡ c * n) (h : j < n) where
+  pub part-within : c * j + c ≤ length src
+  part-within = omega (arith, mul-suc c j, mul-le-mul-left c h)
+
+  pub part-fits : length src < 2 ^ 64 → c * j < 2 ^ 64
+  part-fits f = omega (arith, part-within)
+
+  pub part-end-fits : length src < 2 ^ 64 → c * j + c < 2 ^ 64
+  part-end-fits f = omega (arith, part-within)
 
 module _ (c : ℕ) (v₀ src : List ℕ) where
   -- v with the first j parts of src xored in
@@ -31,25 +39,39 @@ module _ (c : ℕ) (v₀ src : List ℕ) where
   no-parts l =
       same-list c v₀ _ l (length-xor c v₀ _) (λ k h. sym (getD-xor c v₀ _ k h ∙ ap (xor (getD v₀ k 0)) (getD-tab c _ k h) ∙ xor-zero-r _))
 
-  pub next-part-in : (j : ℕ) (v p : List ℕ) → v ≡ parts-in j → ((k : ℕ) → k < c → getD p k 0 ≡ getD src (c * j + k) 0) → xorBytes c v p ≡ parts-in (j + 1)
+  parts-long : (j : ℕ) → length (parts-in j) ≡ c
   unfolding parts-in
-  next-part-in j v p e h =
-      same-list c _ _ (length-xor c v p) (length-xor c v₀ _)
-      (λ k hk.
-      getD-xor c v p k hk
-      ∙ ap₂ xor (ap (λ (l : List ℕ). getD l k 0) e ∙ summed j k hk) (h k hk)
-      ∙ xor-assoc (getD v₀ k 0) _ _
-      ∙ ap (λ (n : ℕ). xor (getD v₀ k 0) (xorSum n (λ i. getD src (c * i + k) 0))) (sym (add-one j))
-      ∙ sym (summed (j + 1) k hk))
-    where
-      summed : (n k : ℕ) → k < c → getD (xorBytes c v₀ (tab c (λ k. xorSum n (λ i. getD src (c * i + k) 0)))) k 0 ≡ xor (getD v₀ k 0) (xorSum n (λ i. getD src (c * i + k) 0))
-      summed n k hk = getD-xor c v₀ _ k hk ∙ ap (xor (getD v₀ k 0)) (getD-tab c _ k hk)
+  parts-long j = length-xor c v₀ _
 
-  pub all-parts : (n : ℕ) → 0 < c → length src ≡ c * n → parts-in n ≡ xorBytes c v₀ (fold c src)
-  unfolding parts-in fold
-  all-parts n h l =
-      ap (xorBytes c v₀)
-      (tab-ext c _ _ (λ k hk. ap (λ (m : ℕ). xorSum m (λ i. getD src (c * i + k) 0)) (sym (ap (λ (x : ℕ). x / c) l ∙ mul-div-cancel-left n h))))
+  summed : (n k : ℕ) → k < c → getD (parts-in n) k 0 ≡ xor (getD v₀ k 0) (xorSum n (λ i. getD src (c * i + k) 0))
+  unfolding parts-in
+  summed n k h = getD-xor c v₀ _ k h ∙ ap (xor (getD v₀ k 0)) (getD-tab c _ k h)
+
+  module _ (j : ℕ) (v : List ℕ) (e : v ≡ parts-in j) where
+    -- the part j is what stands in src from c * j to its end
+    pub next-part-in : length v ≡ c → (r : List ℕ) → r ≡ xorBytes (length v) v (take (c * j + c - c * j) (drop (c * j) src)) → r ≡ parts-in (j + 1)
+    next-part-in l r x =
+        x
+        ∙ ap (λ (m : ℕ). xorBytes m v part) l
+        ∙ same-list c _ _ (length-xor c v part) (parts-long (j + 1))
+        (λ k h.
+        getD-xor c v part k h
+        ∙ ap₂ xor (ap (λ (y : List ℕ). getD y k 0) e ∙ summed j k h) (at k h)
+        ∙ xor-assoc (getD v₀ k 0) _ _
+        ∙ ap (λ (n : ℕ). xor (getD v₀ k 0) (xorSum n (λ i. getD src (c * i + k) 0))) (sym (add-one j))
+        ∙ sym (summed (j + 1) k h))
+      where
+        part : List ℕ
+        part = take (c * j + c - c * j) (drop (c * j) src)
+
+        at : (k : ℕ) → k < c → getD part k 0 ≡ getD src (c * j + k) 0
+        at k h = getD-take (c * j + c - c * j) (drop (c * j) src) k 0 (omega arith) ∙ getD-drop (c * j) src k 0
+
+    pub all-parts : (n : ℕ) → 0 < c → length src ≡ c * n → j ≤ n → n ≤ j → v ≡ xorBytes c v₀ (fold c src)
+    unfolding parts-in fold
+    all-parts n h l most least =
+        let all : j ≡ length src / c = omega (arith, ap (λ (x : ℕ). x / c) l ∙ mul-div-cancel-left n h) in
+        e ∙ ap (xorBytes c v₀) (tab-ext c _ _ (λ k hk. ap (λ (m : ℕ). xorSum m (λ i. getD src (c * i + k) 0)) all))
 
 -- ---- the fold of a loaded square
 
@@ -101,8 +123,12 @@ block-parts c b (suc p) h e = omega (arith, mul-suc c p, ap (λ (n : ℕ). c * n
     less : (p : ℕ) → suc p - 1 ≡ p
     less p = omega arith
 
+-- a square is as many parts as its length divided by theirs
+pub square-parts : (c : ℕ) (v w : List ℕ) → length v ≡ c → length w ≡ 256 → 256 ≡ c * (256 / c) → length w ≡ length v * (256 / c)
+square-parts c v w lv lw e = lw ∙ e ∙ ap (λ (n : ℕ). n * (256 / c)) (sym lv)
+
 -- the chaining variable and the block, copied into a square one behind the other
-pub loaded : (z v m s t : List ℕ) → length z ≡ 256 → length v + length m ≡ 256 → Placed z 0 v (length v) s → Placed s (length v) m (length m) t → t ≡ v ++ m
+loaded : (z v m s t : List ℕ) → length z ≡ 256 → length v + length m ≡ 256 → Placed z 0 v (length v) s → Placed s (length v) m (length m) t → t ≡ v ++ m
 loaded z v m s t lz l P Q =
     same-list 256 t (v ++ m) (Q .long ∙ P .long ∙ lz) (length-append v m ∙ l)
     (λ k lt.
@@ -117,9 +143,13 @@ loaded z v m s t lz l P Q =
     left : (k : ℕ) → length v ≤ k → k < 256 → k - length v < length m
     left k g lt = omega arith
 
--- the two folds, one after the other
-pub compressed : (n : ℕ) (key : ℕ → List ℕ) (salt v m w r t : List ℕ) → length r ≡ length v → r ≡ xorBytes (length v) v (fold (length v) m) → t ≡ xorBytes (length r) r (fold (length r) w)
-    → w ≡ rounds n key salt (v ++ m) → t ≡ compress (length v) n key salt v m
+-- a square loaded and run, and the two folds
+pub compressed : (n : ℕ) (key : ℕ → List ℕ) (salt v m z s q w r t : List ℕ) → t ≡ xorBytes (length r) r (fold (length r) w)
+    → r ≡ xorBytes (length v) v (fold (length v) m) → length r ≡ length v → w ≡ rounds n key salt q
+    → Placed s (length v) m (length m) q → Placed z 0 v (length v) s → length z ≡ 256 → length v + length m ≡ 256
+    → t ≡ compress (length v) n key salt v m
 unfolding compress bigFinal
-compressed n key salt v m w r t l p q e =
-    q ∙ ap (λ (k : ℕ). xorBytes k r (fold k w)) l ∙ ap₂ (λ (x y : List ℕ). xorBytes (length v) x (fold (length v) y)) p e
+compressed n key salt v m z s q w r t fin p lr run second first lz l =
+    fin
+    ∙ ap (λ (k : ℕ). xorBytes k r (fold k w)) lr
+    ∙ ap₂ (λ (x y : List ℕ). xorBytes (length v) x (fold (length v) y)) p (run ∙ ap (rounds n key salt) (loaded z v m s q lz l first second))

@@ -17,7 +17,7 @@ use Rattle.echo.specs.Families.{blockSize, chainingSize, roundCount}
 use Rattle.echo.specs.Padding.{padding}
 use Rattle.echo.specs.Session.{addAnswer, addBytes, allZero, isSession, limit, readAnswer, readLeaves, sessionDigest}
 use Rattle.echo.proofs.Laws.Families.{block-pos, sizes}
-use Rattle.echo.proofs.Laws.Sessions.{SessionFits, added, both, read-0, session-fits}
+use Rattle.echo.proofs.Laws.Sessions.{SessionFits, added, both, left-0, read-0, session-fits}
 use Rattle.echo.proofs.Laws.States.{add-more, chained, made-eq, state-final, state-is-session, stateFrom}
 
 zeros-only : (l : List ℕ) → allZero l ≡ true → l ≡ replicate (length l) 0
@@ -124,7 +124,7 @@ module _ (s : Session) (is : isSession s ≡ true) (lc : length (s .chaining) �
     bits-stay = ap (λ (x : Session). x .bits) added-is
 
     is-added : addAnswer s piece ≡ record { refusal = 0; session = addBytes s piece }
-    is-added = sym (added s piece (addBytes s piece) is fits-limit refl)
+    is-added = sym (added s piece true (sym is) refl (addBytes s piece) refl (omega (arith, fits-limit)))
 
     pub continues : (room : List ℕ) → h / 8 ≤ length room
         → (addAnswer s piece .refusal ≡ 0)
@@ -133,9 +133,12 @@ module _ (s : Session) (is : isSession s ≡ true) (lc : length (s .chaining) �
         × (readLeaves (addAnswer s piece .session) room ≡ take (h / 8) final ++ drop (h / 8) room)
     continues room l =
         let r = take (h / 8) final ++ drop (h / 8) room in
-        let R = read-0 (addBytes s piece) room continued-is-session (rw bits-stay l) r (rw (continued-digest, bits-stay) refl) in (
+        let one = sym continued-is-session in
+        let enough : addBytes s piece .bits / 8 ≤ length room = rw bits-stay l in
+        let answers = read-0 (addBytes s piece) room true one refl enough in
+        let leaves = left-0 (addBytes s piece) room true one refl enough r (rw (continued-digest, bits-stay) refl) in (
           ap (λ (x : Answer). x .refusal) is-added,
           ap (λ (x : Answer). isSession (x .session)) is-added ∙ continued-is-session,
-          ap (λ (x : Answer). readAnswer (x .session) (length room) .refusal) is-added ∙ ap (λ (x : Answer). x .refusal) (sym (R .0)),
-          ap (λ (x : Answer). readLeaves (x .session) room) is-added ∙ sym (R .1),
+          ap (λ (x : Answer). readAnswer (x .session) (length room) .refusal) is-added ∙ ap (λ (x : Answer). x .refusal) (sym answers),
+          ap (λ (x : Answer). readLeaves (x .session) room) is-added ∙ sym leaves,
         )

@@ -21,12 +21,13 @@ use Rattle.echo.specs.Placed.{Placed}
 use Rattle.echo.specs.Session.{allZero, compressed, finalChaining, limit, made}
 use Rattle.echo.specs.Square.{keysFrom}
 use Rattle.echo.proofs.Laws.Counting.{div-on, mod-on}
-use Rattle.echo.proofs.Laws.Families.{block-pos, sizes}
+use Rattle.echo.proofs.Laws.Families.{sizes}
 use Rattle.echo.proofs.Laws.Joined.{first-part, second-part}
 use Rattle.echo.proofs.Laws.Sessions.{both}
+use Rattle.echo.proofs.Laws.Placed.{cleared}
 
 -- a block of b bytes whose last eighteen are the lengths e
-pub closed : (b : ℕ) (w e t : List ℕ) → length w ≡ 192 → 128 ≤ b → b ≤ 192 → length e ≡ 18 → Placed w (b - 18) e 18 t → take b t ≡ take (b - 18) w ++ e
+closed : (b : ℕ) (w e t : List ℕ) → length w ≡ 192 → 128 ≤ b → b ≤ 192 → length e ≡ 18 → Placed w (b - 18) e 18 t → take b t ≡ take (b - 18) w ++ e
 closed b w e t lw least most le P =
     same-list b (take b t) (take (b - 18) w ++ e) (length-take-le b t (omega (arith, P .long))) (length-append (take (b - 18) w) e ∙ omega (arith, short, le))
     (λ k h. getD-take b t k 0 h ∙ ⊎-elim (front k) (back k h) (lt-or-le k (b - 18)))
@@ -209,6 +210,26 @@ module _ (b h n : ℕ) (w : List ℕ) (lw : length w ≡ 192) (least : 128 ≤ b
       ∙ take-all b (replicate (b - 18) 0 ++ lengthsOf h n) (omega (arith, length-append (replicate (b - 18) 0) (lengthsOf h n), length-replicate {A = ℕ} (b - 18) 0, length-lengths h n))
       ∙ ap (λ (l : List ℕ). l ++ lengthsOf h n) (sym (take-zeros (b - 18) 192 (omega arith)))
 
+-- ---- the lengths e put into the last bytes of a block, by a block size b that the code computed
+
+module _ (h b : ℕ) (size : b ≡ blockSize h) where
+  pub lengths-fit : 18 ≤ b
+  lengths-fit = let S = sizes h in omega arith
+
+  module _ (w e : List ℕ) (lw : length w ≡ 192) (le : length e ≡ 18) where
+    pub lengths-within : b - 18 + length e ≤ length w
+    lengths-within = let S = sizes h in omega arith
+
+    pub closed-block : (n k : ℕ) (salt v t u : List ℕ) → u ≡ compressed h salt v k (take (blockSize h) t) → Placed w (b - 18) e (length e) t → e ≡ lengthsOf h n
+        → u ≡ compressed h salt v k (take (blockSize h - 18) w ++ lengthsOf h n)
+    closed-block n k salt v t u r P d =
+        let S = sizes h in
+        r
+        ∙ ap (compressed h salt v k)
+        (closed (blockSize h) w e t lw (S .block-least) (S .block-most) le
+        (subst (λ (x : ℕ). Placed w (x - 18) e 18 t) size (subst (λ (x : ℕ). Placed w (b - 18) e x t) le P))
+        ∙ ap (λ (l : List ℕ). take (blockSize h - 18) w ++ l) d)
+
 -- ---- the final chaining variable
 
 -- the chaining variable of the room that has taken a block
@@ -272,25 +293,7 @@ module _ (h n b k : ℕ) (size : b ≡ blockSize h) (counter : k ≡ either (eqb
     pub two-left : b < n % b + 19 → (u l r : List ℕ) → u ≡ compressed h salt v k (take (blockSize h) (set w (n % b) 0x80))
         → l ≡ replicate (length (set w (n % b) 0x80)) 0 → r ≡ compressed h salt u 0 (take (blockSize h - 18) l ++ lengthsOf h n)
         → take (chainingSize h) r ≡ finalChaining (made h salt v n w)
-    two-left over u l r first cleared second =
-        ap (take (chainingSize h)) (second ∙ ap (λ (x : List ℕ). compressed h salt u 0 (take (blockSize h - 18) x ++ lengthsOf h n)) (cleared ∙ ap (λ (x : ℕ). replicate x 0) (length-set w (n % b) 0x80 ∙ lw)))
+    two-left over u l r first zeros second =
+        ap (take (chainingSize h)) (second ∙ ap (λ (x : List ℕ). compressed h salt u 0 (take (blockSize h - 18) x ++ lengthsOf h n)) (cleared w l (n % b) 0x80 192 zeros lw))
         ∙ final-two h n salt v w lw z (subst (λ (x : ℕ). x < n % x + 19) size over) u
         (first ∙ ap₂ (λ (x y : ℕ). compressed h salt v x (take (blockSize h) (set w (n % y) 0x80))) counter-is size)
-
-pub some-block : (h b : ℕ) → b ≡ blockSize h → 0 < b
-some-block h b size = omega (arith, block-pos h)
-
--- the byte behind the waiting ones is in their room
-module _ (h n b : ℕ) (size : b ≡ blockSize h) where
-  at-small : n % b < 192
-  at-small = let S = sizes h in omega (arith, mod-lt n (block-pos h), ap (λ (x : ℕ). n % x) size)
-
-  pub behind-fits : n % b + 19 < 2 ^ 64
-  behind-fits = omega (arith, at-small)
-
-  pub behind-in : (w : List ℕ) → length w ≡ 192 → n % b < length w
-  behind-in w lw = omega (arith, at-small)
-
--- a list that is as long as another after a store
-pub length-after : (w u : List ℕ) (i x m : ℕ) → length u ≡ length (set w i x) → length w ≡ m → length u ≡ m
-length-after w u i x m e l = e ∙ length-set w i x ∙ l

@@ -10,7 +10,8 @@ use Rattle.echo.specs.declared.session.Answer.{Answer}
 use Rattle.echo.specs.Digest.{digestOf}
 use Rattle.echo.specs.Session.{addAnswer, addBytes, admitted, limit, openAnswer, opened, readAnswer, readLeaves}
 use Rattle.echo.proofs.Laws.Opened.{add-pieces, opened-bits, opened-digest, opened-is-session, opened-taken}
-use Rattle.echo.proofs.Laws.Sessions.{added, open-0, read-0}
+use Rattle.echo.proofs.Laws.Sessions.{added, left-0, open-0, read-0}
+use Rattle.echo.proofs.Laws.Words.{sixteen-are}
 
 pub admitted-256 : admitted 256 ≡ true
 unfolding admitted
@@ -18,19 +19,23 @@ admitted-256 = refl
 
 module _ (h : ℕ) (salt : List ℕ) (a : admitted h ≡ true) where
   pub opens : length salt ≡ 16 → _≡_ {A = Answer} (openAnswer h salt) (record { refusal = 0; session = opened h salt })
-  opens l = sym (open-0 h salt a l (opened h salt) refl)
+  opens l = sym (open-0 h salt true (sym a) refl l salt _ (sym (sixteen-are salt l)) refl)
 
   pub takes : (m piece : List ℕ) → length m + length piece ≤ limit
       → _≡_ {A = Answer} (addAnswer (addBytes (opened h salt) m) piece) (record { refusal = 0; session = addBytes (opened h salt) (m ++ piece) })
   takes m piece n =
       let s = addBytes (opened h salt) m in
-      sym (added s piece _ (opened-is-session h salt m a (omega arith)) (omega (arith, opened-taken h salt m)) (sym (add-pieces (opened h salt) m piece)))
+      let is = sym (opened-is-session h salt m a (omega arith)) in
+      sym (added s piece true is refl _ (sym (add-pieces (opened h salt) m piece)) (omega (arith, opened-taken h salt m)))
 
   pub reads : (m room : List ℕ) → length m ≤ limit → h / 8 ≤ length room
       → (_≡_ {A = Answer} (readAnswer (addBytes (opened h salt) m) (length room)) (record { refusal = 0; session = addBytes (opened h salt) m }))
       × (readLeaves (addBytes (opened h salt) m) room ≡ digestOf h salt m ++ drop (h / 8) room)
   reads m room n l =
-      let bits = opened-bits h salt m in
       let s = addBytes (opened h salt) m in
-      let R = read-0 s room (opened-is-session h salt m a n) (rw bits l) (digestOf h salt m ++ drop (h / 8) room) (rw (opened-digest h salt m, bits) refl) in
-      (sym (R .0), sym (R .1))
+      let bits = opened-bits h salt m in
+      let is = sym (opened-is-session h salt m a n) in
+      let fits : s .bits / 8 ≤ length room = rw bits l in (
+        sym (read-0 s room true is refl fits),
+        sym (left-0 s room true is refl fits (digestOf h salt m ++ drop (h / 8) room) (rw (opened-digest h salt m, bits) refl)),
+      )

@@ -3,10 +3,10 @@ use mathlib.Core.Path.{_≡_, refl, sym, ap, _∙_, subst}
 use mathlib.Core.Logic.{⊎-elim}
 use mathlib.Core.List.{List, _++_}
 use Prim.Native.Nat.{ℕ, _+_, _-_, _<_, _≤_}
-use native.Mathlib.Nat.{not-suc-le-zero}
+use native.Mathlib.Nat.{not-suc-le-zero, zero-add}
 use native.Mathlib.Omega.{arith}
 use borrow.Author.Count.{below-more}
-use lib.ListN.{drop, getD, length, length-append, length-drop, length-set, set, take}
+use lib.ListN.{drop, getD, length, length-append, length-drop, length-set, replicate, set, take}
 use lib.Seq.{ext-getD, getD-drop, getD-set-other, getD-set-same, getD-take, length-take-le}
 use Rattle.aes_round.proofs.Laws.Bytes.{lt-or-le}
 use Rattle.aes_round.proofs.Laws.Fill.{Filled}
@@ -27,17 +27,15 @@ module _ (l : List ℕ) (at : ℕ) (w : List ℕ) where
     behind = λ k le. getD-set-other r (at + n) k v 0 (λ q. omega arith) ∙ P .behind k (omega arith);
   }
 
--- a list placed over the whole of another
-pub placed-whole : (l w r : List ℕ) (n : ℕ) → length l ≡ n → length w ≡ n → Placed l 0 w n r → r ≡ w
-placed-whole l w r n hl hw P =
-    ext-getD 0 r w (P .long ∙ hl ∙ sym hw)
-    (λ k lt. ap (λ (m : ℕ). getD r m 0) (sym (from-zero k)) ∙ P .inside k (inside-lt k lt))
-  where
-    from-zero : (k : ℕ) → 0 + k ≡ k
-    from-zero k = omega arith
+  pub place-all : (n i : ℕ) (r : List ℕ) → Placed l at w i r → n ≡ length w → i ≤ n → n ≤ i → Placed l at w (length w) r
+  place-all n i r P e most least = let all : i ≡ length w = omega arith in subst (λ (m : ℕ). Placed l at w m r) all P
 
-    inside-lt : (k : ℕ) → k < length r → k < n
-    inside-lt k lt = subst (λ (m : ℕ). k < m) (P .long ∙ hl) lt
+-- a list placed over the whole of another
+pub placed-whole : (l w r : List ℕ) (n : ℕ) → Placed l 0 w (length w) r → length w ≡ n → length l ≡ n → r ≡ w
+placed-whole l w r n P hw hl = ext-getD 0 r w same (λ k h. ap (λ (m : ℕ). getD r m 0) (sym (zero-add k)) ∙ P .inside k (omega (arith, same)))
+  where
+    same : length r ≡ length w
+    same = P .long ∙ hl ∙ sym hw
 
 -- a loop that fills a list from the front, n bytes at a turn
 pub fill-part : (N : ℕ) (f : ℕ → ℕ) (l : List ℕ) (i : ℕ) (r w r′ : List ℕ) (n : ℕ) → Filled N f l i r → Placed r i w n r′ → i + n ≤ N → ((k : ℕ) → k < n → getD w k 0 ≡ f (i + k)) → Filled N f l (i + n) r′
@@ -85,3 +83,14 @@ part-placed l w at n h e = record {
     whole =
         length-append (take at l) rest
         ∙ omega (arith, short, length-append w (drop n (drop at l)), length-drop n (drop at l), length-drop at l)
+
+-- ---- rooms that a store or a call leaves as long as they were
+
+pub as-long : (v u : List ℕ) (m : ℕ) → length v ≡ m → length u ≡ m → length v ≡ length u
+as-long v u m e l = e ∙ sym l
+
+pub length-after : (w u : List ℕ) (i x m : ℕ) → length u ≡ length (set w i x) → length w ≡ m → length u ≡ m
+length-after w u i x m e l = e ∙ length-set w i x ∙ l
+
+pub cleared : (w z : List ℕ) (i x m : ℕ) → z ≡ replicate (length (set w i x)) 0 → length w ≡ m → z ≡ replicate m 0
+cleared w z i x m e l = e ∙ ap (λ (n : ℕ). replicate n 0) (length-set w i x ∙ l)

@@ -1,18 +1,23 @@
 -- Each refusal from the tests that lead to it, and what no refusal means. Assumes nothing.
-use mathlib.Core.Path.{_≡_, _∙_, refl, sym, ap, subst}
+use mathlib.Core.Path.{_≡_, _∙_, refl, sym, ap, ap₂, subst}
 use mathlib.Core.Bool.{Bool, true, false, not, _&&_, _||_, or-false, true≢false}
 use mathlib.Core.Logic.{_⊎_, inl, inr, ⊎-elim}
 use mathlib.Core.List.{List, [], _∷_}
 use Prim.Native.Nat.{ℕ, zero, suc, _+_, _*_, _/_, _-_, _^_, _<_, _≤_}
 use native.Mathlib.Omega.{arith}
-use borrow.Author.Tests.{eq-eqb, eqb-true, le-ltb, lt-ltb, ltb-false, ne-eqb, not-false}
+use borrow.Author.Tests.{eq-eqb, eqb-true, le-ltb, lt-ltb, ltb-false, ne-eqb, not-false, not-true}
 use lib.Dec.{eqb, ltb}
+use lib.ListN.{getD, length}
+use Rattle.aes_round.specs.Bytes.{tab}
+use Rattle.echo.specs.Compression.{compress}
 use Rattle.echo.specs.Refusals.{Refusal, _when_, firstOf, unless}
 use Rattle.echo.specs.Families.{roundCount, sizesFit}
-use Rattle.echo.specs.Routines.{compressRefusal, roundsRefusal}
+use Rattle.echo.specs.Routines.{compressLeaves, compressRefusal, roundsRefusal}
 use Rattle.echo.specs.Session.{admitted, digestRefusal, isSession, limit, readAnswer, readRefusal}
+use Rattle.echo.specs.Square.{keysFrom}
 use Rattle.echo.specs.declared.session.Answer.{Answer}
 use Rattle.echo.specs.declared.session.Session.{Session}
+use Rattle.echo.proofs.Laws.Words.{sixteen-are}
 
 -- with a chaining variable of 64 bytes the block decides
 pub sizes-64 : (c b : ℕ) → c ≡ 64 → eqb b 192 ≡ sizesFit c b
@@ -31,18 +36,18 @@ module _ (square count counter salt : ℕ) where
     rounds-6-square q = simp (eq-eqb salt 16 s, ne-eqb square 256 q)
 
     module _ (q : square ≡ 256) where
-      pub rounds-6-count : (eqb count 8 || eqb count 10) ≡ false → 6 ≡ roundsRefusal square count counter salt
-      unfolding roundsRefusal
-      rounds-6-count n = simp (eq-eqb salt 16 s, eq-eqb square 256 q, n)
-
-      module _ (n : (eqb count 8 || eqb count 10) ≡ true) where
-        pub rounds-7 : 2 ^ 64 - 161 < counter → 7 ≡ roundsRefusal square count counter salt
+      module _ (t : Bool) (e : t ≡ (eqb count 8 || eqb count 10)) where
+        pub rounds-6-count : not t ≡ true → 6 ≡ roundsRefusal square count counter salt
         unfolding roundsRefusal
-        rounds-7 k = simp (eq-eqb salt 16 s, eq-eqb square 256 q, n, lt-ltb (2 ^ 64 - 161) counter k)
+        rounds-6-count n = simp (eq-eqb salt 16 s, eq-eqb square 256 q, sym e ∙ not-true t n)
 
-        pub rounds-0 : counter ≤ 2 ^ 64 - 161 → 0 ≡ roundsRefusal square count counter salt
+        pub rounds-7 : not t ≡ false → 2 ^ 64 - 161 < counter → 7 ≡ roundsRefusal square count counter salt
         unfolding roundsRefusal
-        rounds-0 k = simp (eq-eqb salt 16 s, eq-eqb square 256 q, n, le-ltb (2 ^ 64 - 161) counter k)
+        rounds-7 n k = simp (eq-eqb salt 16 s, eq-eqb square 256 q, sym e ∙ not-false t n, lt-ltb (2 ^ 64 - 161) counter k)
+
+        pub rounds-0 : not t ≡ false → counter ≤ 2 ^ 64 - 161 → 0 ≡ roundsRefusal square count counter salt
+        unfolding roundsRefusal
+        rounds-0 n k = simp (eq-eqb salt 16 s, eq-eqb square 256 q, sym e ∙ not-false t n, le-ltb (2 ^ 64 - 161) counter k)
 
 -- ---- compression
 
@@ -52,44 +57,44 @@ module _ (chaining block counter salt : ℕ) where
   compress-2 s = simp (ne-eqb salt 16 s)
 
   module _ (s : salt ≡ 16) where
-    pub compress-6 : sizesFit chaining block ≡ false → 6 ≡ compressRefusal chaining block counter salt
-    unfolding compressRefusal
-    compress-6 n = simp (eq-eqb salt 16 s, n)
-
-    module _ (n : sizesFit chaining block ≡ true) where
-      pub compress-7 : 2 ^ 64 - 161 < counter → 7 ≡ compressRefusal chaining block counter salt
+    module _ (t : Bool) (e : t ≡ sizesFit chaining block) where
+      pub compress-6 : not t ≡ true → 6 ≡ compressRefusal chaining block counter salt
       unfolding compressRefusal
-      compress-7 k = simp (eq-eqb salt 16 s, n, lt-ltb (2 ^ 64 - 161) counter k)
+      compress-6 n = simp (eq-eqb salt 16 s, sym e ∙ not-true t n)
 
-      pub compress-0 : counter ≤ 2 ^ 64 - 161 → 0 ≡ compressRefusal chaining block counter salt
+      pub compress-7 : not t ≡ false → 2 ^ 64 - 161 < counter → 7 ≡ compressRefusal chaining block counter salt
       unfolding compressRefusal
-      compress-0 k = simp (eq-eqb salt 16 s, n, le-ltb (2 ^ 64 - 161) counter k)
+      compress-7 n k = simp (eq-eqb salt 16 s, sym e ∙ not-false t n, lt-ltb (2 ^ 64 - 161) counter k)
+
+      pub compress-0 : not t ≡ false → counter ≤ 2 ^ 64 - 161 → 0 ≡ compressRefusal chaining block counter salt
+      unfolding compressRefusal
+      compress-0 n k = simp (eq-eqb salt 16 s, sym e ∙ not-false t n, le-ltb (2 ^ 64 - 161) counter k)
 
 -- ---- the digest at once
 
-module _ (bits salt message room : ℕ) where
-  pub digest-1 : admitted bits ≡ false → 1 ≡ digestRefusal bits salt message room
+module _ (bits salt message room : ℕ) (t : Bool) (e : t ≡ admitted bits) where
+  pub digest-1 : not t ≡ true → 1 ≡ digestRefusal bits salt message room
   unfolding digestRefusal
-  digest-1 a = simp a
+  digest-1 n = simp (sym e ∙ not-true t n)
 
-  module _ (a : admitted bits ≡ true) where
+  module _ (n : not t ≡ false) where
     pub digest-2 : (salt ≡ 16 → ⊥) → 2 ≡ digestRefusal bits salt message room
     unfolding digestRefusal
-    digest-2 s = simp (a, ne-eqb salt 16 s)
+    digest-2 s = simp (sym e ∙ not-false t n, ne-eqb salt 16 s)
 
     module _ (s : salt ≡ 16) where
       pub digest-4 : limit < message → 4 ≡ digestRefusal bits salt message room
       unfolding digestRefusal
-      digest-4 m = simp (a, eq-eqb salt 16 s, lt-ltb limit message m)
+      digest-4 m = simp (sym e ∙ not-false t n, eq-eqb salt 16 s, lt-ltb limit message m)
 
       module _ (m : message ≤ limit) where
         pub digest-5 : room < bits / 8 → 5 ≡ digestRefusal bits salt message room
         unfolding digestRefusal
-        digest-5 r = simp (a, eq-eqb salt 16 s, le-ltb limit message m, lt-ltb room (bits / 8) r)
+        digest-5 r = simp (sym e ∙ not-false t n, eq-eqb salt 16 s, le-ltb limit message m, lt-ltb room (bits / 8) r)
 
         pub digest-0 : bits / 8 ≤ room → 0 ≡ digestRefusal bits salt message room
         unfolding digestRefusal
-        digest-0 r = simp (a, eq-eqb salt 16 s, le-ltb limit message m, le-ltb room (bits / 8) r)
+        digest-0 r = simp (sym e ∙ not-false t n, eq-eqb salt 16 s, le-ltb limit message m, le-ltb room (bits / 8) r)
 
 -- ---- what no refusal means
 
@@ -128,10 +133,6 @@ rounds-fit square count counter salt e =
       counter-fits = ltb-false (2 ^ 64 - 161) counter (c .0);
     }
 
--- the counters of all words fit
-pub counters-fit : {square count counter salt : ℕ} → RoundsFit square count counter salt → counter + 16 * count ≤ 2 ^ 64
-counters-fit F = ⊎-elim (λ e. omega arith) (λ e. omega arith) (F .count-fits)
-
 -- a digest that was read fits its room
 pub read-fits : (s : Session) (room : ℕ) {r : Answer} → r ≡ readAnswer s room → r .refusal ≡ 0 → s .bits / 8 ≤ room
 unfolding readAnswer readRefusal
@@ -139,10 +140,6 @@ read-fits s room e z =
     let small = ltb room (s .bits / 8) in
     let a = none-first 3 (not (isSession s)) ((5 when small) ∷ []) (λ z. omega arith) (sym (ap (λ (r : Answer). r .refusal) e) ∙ z) in
     ltb-false room (s .bits / 8) (none-first 5 small [] (λ z. omega arith) (a .1) .0)
-
-pub kept : {A : Type 0} (n : ℕ) (a b : A) → (n ≡ 0 → ⊥) → unless n a b ≡ b
-kept zero a b h = absurd (h refl)
-kept (suc n) a b h = refl
 
 pub done : {A : Type 0} (n : ℕ) (a b : A) → n ≡ 0 → unless n a b ≡ a
 done n a b e = ap (λ (k : ℕ). unless k a b) e
@@ -182,15 +179,75 @@ compress-fit chaining block counter salt e =
     (λ (p : (chaining ≡ 128) × (block ≡ 128)). subst (λ (n : ℕ). CompressFit n block counter salt) (sym (p .0)) (record { salt-fits = s; some = omega arith; square-fits = omega arith; parts-fit = refl; counters-fit = omega arith }))
     (sizes-fit chaining block (not-false (sizesFit chaining block) (b .0)))
 
-pub record DigestFits (bits salt message room : ℕ) : Type 0 where
+-- ---- what a refusal r that the code has means to it
+
+pub refused : {A : Type 0} (r n : ℕ) (a b : A) → r ≡ n → (r ≡ 0 → ⊥) → b ≡ unless n a b
+refused r zero a b e h = absurd (h e)
+refused r (suc n) a b e h = refl
+
+pub none-refused : (r n : ℕ) → r ≡ n → r ≡ 0 → 0 ≡ n
+none-refused r n e none = sym none ∙ e
+
+-- none: what the routine requires of its arguments holds, and sixteen bytes of the salt are the salt
+module _ (square : List ℕ) (count counter : ℕ) (salt : List ℕ) (r : ℕ) (e : r ≡ roundsRefusal (length square) count counter (length salt)) (none : r ≡ 0) where
+  fit : RoundsFit (length square) count counter (length salt)
+  fit = rounds-fit (length square) count counter (length salt) (sym e ∙ none)
+
+  pub rounds-salt : 0 + 16 ≤ length salt
+  rounds-salt = omega (arith, fit .salt-fits)
+
+  pub rounds-square : length square ≡ 256
+  rounds-square = fit .square-fits
+
+  -- the counters of all words fit
+  pub rounds-counters : counter + 16 * count ≤ 2 ^ 64
+  rounds-counters = ⊎-elim (λ e. omega (arith, fit .counter-fits)) (λ e. omega (arith, fit .counter-fits)) (fit .count-fits)
+
+module _ (chaining block : List ℕ) (counter : ℕ) (salt : List ℕ) (r : ℕ) (e : r ≡ compressRefusal (length chaining) (length block) counter (length salt)) (none : r ≡ 0) where
+  fits : CompressFit (length chaining) (length block) counter (length salt)
+  fits = compress-fit (length chaining) (length block) counter (length salt) (sym e ∙ none)
+
+  pub compress-salt : 0 + 16 ≤ length salt
+  compress-salt = omega (arith, fits .salt-fits)
+
+  pub compress-some : 0 < length chaining
+  compress-some = fits .some
+
+  pub compress-square : length chaining + length block ≡ 256
+  compress-square = fits .square-fits
+
+  pub compress-parts : 256 ≡ length chaining * (256 / length chaining)
+  compress-parts = fits .parts-fit
+
+  pub compress-counters : (n : ℕ) → n ≡ roundCount (length chaining) → counter + 16 * n ≤ 2 ^ 64
+  compress-counters n c = omega (arith, fits .counters-fit)
+
+  pub compress-done : (n : ℕ) (x last : List ℕ) → n ≡ roundCount (length chaining) → x ≡ tab 16 (λ k. getD salt (0 + k) 0)
+      → last ≡ compress (length chaining) n (keysFrom counter) x chaining block → last ≡ compressLeaves chaining block counter salt
+  unfolding compressLeaves
+  compress-done n x last c s d =
+      d
+      ∙ ap₂ (λ (m : ℕ) (y : List ℕ). compress (length chaining) m (keysFrom counter) y chaining block) c (s ∙ sixteen-are salt (fits .salt-fits))
+      ∙ sym (done _ _ _ (sym e ∙ none))
+
+-- the rounds f, forward or backward
+module _ (f : ℕ → (ℕ → List ℕ) → List ℕ → List ℕ → List ℕ) (square : List ℕ) (count counter : ℕ) (salt : List ℕ) (r : ℕ) where
+  pub rounds-done : r ≡ roundsRefusal (length square) count counter (length salt) → r ≡ 0 → (x last : List ℕ) → x ≡ tab 16 (λ k. getD salt (0 + k) 0)
+      → last ≡ f count (keysFrom counter) x square → last ≡ unless (roundsRefusal (length square) count counter (length salt)) (f count (keysFrom counter) salt square) square
+  rounds-done e none x last s d =
+      d
+      ∙ ap (λ (y : List ℕ). f count (keysFrom counter) y square) (s ∙ sixteen-are salt (fit square count counter salt r e none .salt-fits))
+      ∙ sym (done _ _ _ (sym e ∙ none))
+
+pub record Digestible (bits salt message room : ℕ) : Type 0 where
   pub admits : admitted bits ≡ true
   pub salt-fits : salt ≡ 16
   pub message-fits : message ≤ limit
   pub room-fits : bits / 8 ≤ room
 
-pub digest-fits : (bits salt message room : ℕ) → digestRefusal bits salt message room ≡ 0 → DigestFits bits salt message room
+pub digestible : (bits salt message room : ℕ) → digestRefusal bits salt message room ≡ 0 → Digestible bits salt message room
 unfolding digestRefusal
-digest-fits bits salt message room e =
+digestible bits salt message room e =
     let long = ltb limit message in
     let small = ltb room (bits / 8) in
     let a = none-first 1 (not (admitted bits)) ((2 when not (eqb salt 16)) ∷ (4 when long) ∷ (5 when small) ∷ []) (λ z. omega arith) e in

@@ -2,9 +2,10 @@
 -- Assumes nothing.
 use mathlib.Core.Path.{_≡_, refl, sym, ap, _∙_}
 use mathlib.Core.List.{List}
-use Prim.Native.Nat.{ℕ, zero, suc, _+_, _*_, _<_}
+use Prim.Native.Nat.{ℕ, zero, suc, _+_, _-_, _*_, _<_, _≤_}
 use native.Mathlib.Nat.{add-assoc}
 use native.Mathlib.Numerals.{add-one}
+use native.Mathlib.Omega.{arith}
 use lib.ListN.{getD, length}
 use Rattle.aes_round.specs.Array.{array, entry}
 use Rattle.aes_round.specs.Bytes.{Bytes}
@@ -137,30 +138,55 @@ module _ (key : ℕ → List ℕ) (salt : List ℕ) (K : Keys key) (L : Bytes 16
 
 -- ---- what the code's loops do: round after round, with the counter raised by 16 for each
 
-module _ (C : ℕ) (salt : List ℕ) where
-  -- a round whose first word uses the counter C + 16 n
-  keys-on : (n i : ℕ) → keysFrom (C + 16 * n) i ≡ keysFrom C (16 * n + i)
-  keys-on n i = ap counterKey (add-assoc C (16 * n) i)
+-- a round whose first word uses the counter C + 16 n, its words rewritten by f
+keys-on : (f : List ℕ → List ℕ → List ℕ) (C n : ℕ) (s : List ℕ)
+    → array 16 (λ i b. getD (f (word s i) (keysFrom (C + 16 * n) i)) b 0) ≡ array 16 (λ i b. getD (f (word s i) (keysFrom C (16 * n + i))) b 0)
+keys-on f C n s = array-ext 16 _ _ (λ i b hi hb. ap (λ (k : ℕ). getD (f (word s i) (counterKey k)) b 0) (add-assoc C (16 * n) i))
 
-  pub next-round : (n : ℕ) (s₀ s a b c : List ℕ) → s ≡ rounds n (keysFrom C) salt s₀ → a ≡ bigSubWords (keysFrom (C + 16 * n)) salt s → b ≡ bigShiftRows a → c ≡ bigMixColumns b
-      → c ≡ rounds (n + 1) (keysFrom C) salt s₀
-  unfolding rounds bigRound bigSubWords
-  next-round n s₀ s a b c e p q r =
-      r
+module _ (C : ℕ) (salt s₀ : List ℕ) where
+  -- n rounds are done, from the square s₀ to s
+  pub Ran : ℕ → List ℕ → Type 0
+  Ran n s = s ≡ rounds n (keysFrom C) salt s₀
+
+  pub ran-none : Ran 0 s₀
+  unfolding Ran rounds
+  ran-none = refl
+
+  pub ran-more : (n : ℕ) (s a b c : List ℕ) → Ran n s → b ≡ bigShiftRows a → c ≡ bigMixColumns b → a ≡ bigSubWords (keysFrom (C + 16 * n)) salt s → Ran (n + 1) c
+  unfolding Ran rounds bigRound bigSubWords
+  ran-more n s a b c R shift mix sub =
+      mix
       ∙ ap bigMixColumns
-      (q
+      (shift
       ∙ ap bigShiftRows
-      (p
-      ∙ array-ext 16 _ _ (λ i k hi hk. ap (λ (x : List ℕ). getD (aesRound (aesRound (word s i) x) salt) k 0) (keys-on n i))
-      ∙ ap (bigSubWords (λ i. keysFrom C (16 * n + i)) salt) e))
+      (sub ∙ keys-on (λ w k. aesRound (aesRound w k) salt) C n s ∙ ap (bigSubWords (λ i. keysFrom C (16 * n + i)) salt) R))
       ∙ ap (λ (m : ℕ). rounds m (keysFrom C) salt s₀) (sym (add-one n))
 
-  pub next-round-back : (n : ℕ) (s a b c : List ℕ) → a ≡ bigMixColumnsBack s → b ≡ bigShiftRowsBack a → c ≡ bigSubWordsBack (keysFrom (C + 16 * n)) salt b
-      → roundsBack n (keysFrom C) salt c ≡ roundsBack (n + 1) (keysFrom C) salt s
-  unfolding roundsBack bigRoundBack bigSubWordsBack
-  next-round-back n s a b c p q r =
-      ap (roundsBack n (keysFrom C) salt)
-      (r
-      ∙ array-ext 16 _ _ (λ i k hi hk. ap (λ (x : List ℕ). getD (aesRoundBack (aesRoundBack (word b i) salt) x) k 0) (keys-on n i))
-      ∙ ap (bigSubWordsBack (λ i. keysFrom C (16 * n + i)) salt) (q ∙ ap bigShiftRowsBack p))
-      ∙ ap (λ (m : ℕ). roundsBack m (keysFrom C) salt s) (sym (add-one n))
+  pub ran-all : (n count : ℕ) (s : List ℕ) → Ran n s → n ≤ count → count ≤ n → s ≡ rounds count (keysFrom C) salt s₀
+  unfolding Ran
+  ran-all n count s R most least = let same : n ≡ count = omega arith in R ∙ ap (λ (m : ℕ). rounds m (keysFrom C) salt s₀) same
+
+  -- the way back: n rounds of `count` are left to undo, from the square s
+  pub Left : ℕ → ℕ → List ℕ → Type 0
+  Left count n s = roundsBack n (keysFrom C) salt s ≡ roundsBack count (keysFrom C) salt s₀
+
+  module _ (count : ℕ) where
+    pub all-left : Left count count s₀
+    unfolding Left
+    all-left = refl
+
+    pub less-left : (n : ℕ) (s a b c : List ℕ) → Left count n s → 0 < n → a ≡ bigMixColumnsBack s → b ≡ bigShiftRowsBack a
+        → c ≡ bigSubWordsBack (keysFrom (C + 16 * (n - 1))) salt b → Left count (n - 1) c
+    unfolding Left roundsBack bigRoundBack bigSubWordsBack
+    less-left n s a b c L h mix shift sub =
+        let one : suc (n - 1) ≡ n = omega arith in
+        ap (roundsBack (n - 1) (keysFrom C) salt)
+        (sub
+        ∙ keys-on (λ w k. aesRoundBack (aesRoundBack w salt) k) C (n - 1) b
+        ∙ ap (bigSubWordsBack (λ i. keysFrom C (16 * (n - 1) + i)) salt) (shift ∙ ap bigShiftRowsBack mix))
+        ∙ ap (λ (m : ℕ). roundsBack m (keysFrom C) salt s) one
+        ∙ L
+
+    pub none-left : (n : ℕ) (s : List ℕ) → Left count n s → n ≤ 0 → s ≡ roundsBack count (keysFrom C) salt s₀
+    unfolding Left roundsBack
+    none-left n s L none = let same : 0 ≡ n = omega arith in ap (λ (m : ℕ). roundsBack m (keysFrom C) salt s) same ∙ L

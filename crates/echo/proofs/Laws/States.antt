@@ -17,7 +17,7 @@ use Rattle.echo.specs.Padding.{padding}
 use Rattle.echo.specs.Session.{addByte, addBytes, admitted, allZero, finalChaining, isSession, limit, made}
 use Rattle.echo.specs.Square.{keysFrom}
 use Rattle.echo.proofs.Laws.Families.{block-pos, sizes}
-use Rattle.echo.proofs.Laws.Sessions.{is-clear, put-full, put-more}
+use Rattle.echo.proofs.Laws.Sessions.{is-clear}
 use Rattle.echo.proofs.Laws.Stream.{
   block-rest,
   block-stays,
@@ -35,6 +35,7 @@ use Rattle.echo.proofs.Laws.Stream.{
   stored-full,
   stored-more,
 }
+use Rattle.echo.proofs.Laws.Waiting.{put-full, put-more}
 
 pub zeros-are-zero : (k : ℕ) → allZero (replicate k 0) ≡ true
 unfolding allZero
@@ -119,14 +120,15 @@ module _ (h : ℕ) (salt v rest : List ℕ) (q : ℕ) where
         full : suc (length xs % b) ≡ b → addByte (stateFrom xs) x ≡ stateFrom (xs ++ x ∷ [])
         full e =
             let f : length xs % b + 1 ≡ b = omega arith in
-            sym (put-full h (count xs) x (length xs % b) salt _ _ (sym (count-rest xs)) (chained (xs ++ x ∷ []) (length (xs ++ x ∷ []) / b) ++ rest) f
-            (rw (chained-full xs x f, room-used xs (length xs / b), room-rest xs (length xs / b), stored-full b (block-pos h) xs x f 192 block-fits)))
+            sym (put-full h (count xs) (length xs % b) b (sym (count-rest xs)) refl (omega arith) x salt _ _
+            (chained (xs ++ x ∷ []) (length (xs ++ x ∷ []) / b) ++ rest) (replicate 192 0)
+            (rw (chained-full xs x f, room-used xs (length xs / b), room-rest xs (length xs / b), stored-full b (block-pos h) xs x f 192 block-fits)) refl)
             ∙ made-eq refl (sym (count-snoc xs x)) (nothing-waits b (block-pos h) xs x f 192)
 
         more : suc (length xs % b) < b → addByte (stateFrom xs) x ≡ stateFrom (xs ++ x ∷ [])
         more e =
             let l : length xs % b + 1 < b = omega arith in
-            sym (put-more h (count xs) x (length xs % b) salt _ _ (sym (count-rest xs)) l)
+            sym (put-more h (count xs) (length xs % b) b (sym (count-rest xs)) refl l x salt _ _)
             ∙ made-eq (ap (λ (u : List ℕ). u ++ rest) (chained-more xs x l)) (sym (count-snoc xs x)) (stored-more b (block-pos h) xs x l 192 block-fits)
 
     pub add-more : (xs ys : List ℕ) → addBytes (stateFrom xs) ys ≡ stateFrom (xs ++ ys)
@@ -139,8 +141,10 @@ module _ (h : ℕ) (salt v rest : List ℕ) (q : ℕ) where
     pub state-is-session : (m : List ℕ) → admitted h ≡ true → count m ≤ limit → allZero rest ≡ true → isSession (stateFrom m) ≡ true
     unfolding stateFrom
     state-is-session m a l z =
-        sym (is-clear (stateFrom m) a l (rw (count-rest m) (zeros-behind (drop (b * (length m / b)) m) (length m % b) (192 - length m % b) (length-rest b (block-pos h) m))))
-        ∙ rw (room-rest m (length m / b)) z
+        sym (is-clear (stateFrom m) true (sym a) refl l b refl true (sym waits) refl c true (sym (ap allZero (room-rest m (length m / b)) ∙ z)) refl)
+      where
+        waits : allZero (drop (count m % b) (drop (b * (length m / b)) m ++ replicate (192 - length m % b) 0)) ≡ true
+        waits = rw (count-rest m) (zeros-behind (drop (b * (length m / b)) m) (length m % b) (192 - length m % b) (length-rest b (block-pos h) m))
 
     -- ---- what is read: the paper's iteration from v, over the bytes since and the padding
 

@@ -5,8 +5,9 @@ use Prim.Native.Nat.{ℕ, _+_, _*_, _/_, _%_, _<_, _≤_}
 use native.Mathlib.Nat.{zero-add}
 use native.Mathlib.Omega.{arith}
 use lib.ListN.{getD, length}
-use Rattle.aes_round.specs.Array.{array}
+use Rattle.aes_round.specs.Array.{array, entry}
 use Rattle.aes_round.specs.Bytes.{tab}
+use Rattle.aes_round.specs.Rounds.{aesRound, aesRoundBack}
 use Rattle.aes_round.proofs.Laws.Array.{entry-is, is-array, tab-array}
 use Rattle.aes_round.proofs.Laws.Bytes.{getD-tab, is-tab, tab-ext}
 use Rattle.aes_round.proofs.Laws.Fill.{Filled, fill-all, fill-none}
@@ -31,19 +32,19 @@ bytesOf f k = getD (f (k / 16)) (k % 16) 0
 
 module _ (f : ℕ → List ℕ) (l : List ℕ) where
   -- the first j words are new
-  pub Words : ℕ → List ℕ → Type 0
+  Words : ℕ → List ℕ → Type 0
   Words j s = Filled 256 (bytesOf f) l (16 * j) s
 
-  pub no-words : length l ≡ 256 → Words 0 l
+  no-words : length l ≡ 256 → Words 0 l
   unfolding Words
   no-words = fill-none 256 (bytesOf f) l
 
   -- the word j is still the old one
-  pub old-word : (j : ℕ) (s : List ℕ) → Words j s → tab 16 (λ b. getD s (16 * j + b) 0) ≡ word l j
+  old-word : (j : ℕ) (s : List ℕ) → Words j s → tab 16 (λ b. getD s (16 * j + b) 0) ≡ word l j
   unfolding Words
   old-word j s F = tab-ext 16 _ _ (λ b h. F .rest (16 * j + b) (omega arith)) ∙ sym (word-is l j)
 
-  pub next-word : (j : ℕ) (s w t : List ℕ) → Words j s → j < 16 → Placed s (16 * j) w 16 t → w ≡ f j → Words (j + 1) t
+  next-word : (j : ℕ) (s w t : List ℕ) → Words j s → j < 16 → Placed s (16 * j) w 16 t → w ≡ f j → Words (j + 1) t
   unfolding Words
   next-word j s w t F h P e =
       subst (λ (k : ℕ). Filled 256 (bytesOf f) l k t) (steps j)
@@ -59,7 +60,7 @@ module _ (f : ℕ → List ℕ) (l : List ℕ) where
       remainder : (j b : ℕ) → b < 16 → b ≡ (16 * j + b) % 16
       remainder j b h = omega arith
 
-  pub all-words : (j : ℕ) (s : List ℕ) → Words j s → 16 ≤ j → s ≡ array 16 (λ i b. getD (f i) b 0)
+  all-words : (j : ℕ) (s : List ℕ) → Words j s → 16 ≤ j → s ≡ array 16 (λ i b. getD (f i) b 0)
   unfolding Words
   all-words j s F h =
       fill-all 256 (bytesOf f) l (16 * j) s F (omega arith)
@@ -71,19 +72,65 @@ module _ (f : ℕ → List ℕ) (l : List ℕ) where
       remainder : (j b : ℕ) → b < 16 → (16 * j + b) % 16 ≡ b
       remainder j b h = omega arith
 
--- ---- BIG.ShiftRows moves words
+-- ---- BIG.SubWords and its way back: word after word goes through f, with its subkey and the salt
 
-pub shift-words : (s : List ℕ) → array 16 (λ i b. getD (tab 16 (λ b. getD s (16 * (5 * i % 16) + b) 0)) b 0) ≡ bigShiftRows s
+module _ (f : List ℕ → List ℕ → List ℕ → List ℕ) (key : ℕ → List ℕ) (salt l : List ℕ) where
+  pub Through : ℕ → List ℕ → Type 0
+  Through = Words (λ i. f (word l i) (key i) salt) l
+
+  pub none-through : length l ≡ 256 → Through 0 l
+  unfolding Through
+  none-through = no-words _ l
+
+  pub next-through : (j : ℕ) (s w k t r : List ℕ) → Placed s (16 * j) t (length t) r → t ≡ f w k salt → w ≡ tab 16 (λ b. getD s (16 * j + b) 0) → k ≡ key j
+      → length t ≡ 16 → j < 16 → Through j s → Through (j + 1) r
+  unfolding Through
+  next-through j s w k t r P e p q lt h T =
+      next-word _ l j s t r T h (subst (λ (n : ℕ). Placed s (16 * j) t n r) lt P)
+      (e ∙ ap₂ (λ (x y : List ℕ). f x y salt) (p ∙ old-word _ l j s T) q)
+
+  pub all-through : (j : ℕ) (s : List ℕ) → Through j s → 16 ≤ j → s ≡ array 16 (λ i b. getD (f (word l i) (key i) salt) b 0)
+  unfolding Through
+  all-through = all-words _ l
+
+abbrev pub forth : List ℕ → List ℕ → List ℕ → List ℕ
+forth w k salt = aesRound (aesRound w k) salt
+
+abbrev pub back : List ℕ → List ℕ → List ℕ → List ℕ
+back w k salt = aesRoundBack (aesRoundBack w salt) k
+
+-- ---- BIG.ShiftRows and its way back: word j comes out of l from the place m j (mod 16)
+
+module _ (m : ℕ) (l : List ℕ) where
+  pub Moved : ℕ → List ℕ → Type 0
+  Moved = Words (λ i. tab 16 (λ b. getD l (16 * (m * i % 16) + b) 0)) l
+
+  pub none-moved : length l ≡ 256 → Moved 0 l
+  unfolding Moved
+  none-moved = no-words _ l
+
+  pub next-moved : (j : ℕ) (s copy w r : List ℕ) → Placed s (16 * j) w (length w) r → w ≡ tab 16 (λ b. getD copy (16 * (m * j % 16) + b) 0) → copy ≡ l
+      → length w ≡ 16 → j < 16 → Moved j s → Moved (j + 1) r
+  unfolding Moved
+  next-moved j s copy w r P e c lw h M =
+      next-word _ l j s w r M h (subst (λ (n : ℕ). Placed s (16 * j) w n r) lw P)
+      (e ∙ ap (λ (x : List ℕ). tab 16 (λ b. getD x (16 * (m * j % 16) + b) 0)) c)
+
+  -- t has its words from these places
+  all-moved : (t : List ℕ) → length t ≡ 256 → ((i b : ℕ) → i < 16 → b < 16 → entry 16 t i b ≡ entry 16 l (m * i % 16) b)
+      → (j : ℕ) (s : List ℕ) → Moved j s → 16 ≤ j → s ≡ t
+  unfolding Moved
+  all-moved t lt entries j s M h =
+      all-words _ l j s M h
+      ∙ sym (is-array 16 t _ lt (λ i b hi hb. entries i b hi hb ∙ entry-is 16 l (m * i % 16) b ∙ sym (getD-tab 16 _ b hb)))
+
+pub moved-forth : (l : List ℕ) (j : ℕ) (s : List ℕ) → Moved 5 l j s → 16 ≤ j → s ≡ bigShiftRows l
 unfolding bigShiftRows
-shift-words s =
-    sym (is-array 16 _ _ (length-shift 16 s)
-    (λ i b hi hb. entry-shift 16 s i b hi hb ∙ entry-is 16 s (5 * i % 16) b ∙ sym (getD-tab 16 _ b hb)))
+moved-forth l = all-moved 5 l _ (length-shift 16 l) (entry-shift 16 l)
 
-pub shift-words-back : (s : List ℕ) → array 16 (λ i b. getD (tab 16 (λ b. getD s (16 * (13 * i % 16) + b) 0)) b 0) ≡ bigShiftRowsBack s
+pub moved-back : (l : List ℕ) (j : ℕ) (s : List ℕ) → Moved 13 l j s → 16 ≤ j → s ≡ bigShiftRowsBack l
 unfolding bigShiftRowsBack
-shift-words-back s =
-    sym (is-array 16 _ _ (length-shift-back 16 s)
-    (λ i b hi hb. entry-shift-back 16 s i b hi hb ∙ entry-is 16 s (13 * i % 16) b ∙ sym (getD-tab 16 _ b hb)))
+moved-back l = all-moved 13 l _ (length-shift-back 16 l) (entry-shift-back 16 l)
 
 -- the word that comes to place i
 pub shifted-word : (s : List ℕ) (i : ℕ) → i < 16 → word (bigShiftRows s) i ≡ word s (5 * i % 16)

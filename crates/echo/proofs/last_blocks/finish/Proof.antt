@@ -1,7 +1,9 @@
 -- `finish` meets its contract: one block or two are left, by whether the padding fits behind the waiting bytes. Assumes nothing.
 use mathlib.Core.Path.{_∙_}
 use borrow.Author.Needs.{needs, set-long}
-use Rattle.echo.proofs.Laws.Ends.{behind-fits, behind-in, counter-fits, length-after, one-left, some-block, two-left}
+use Rattle.echo.proofs.Laws.Ends.{counter-fits, one-left, two-left}
+use Rattle.echo.proofs.Laws.Waiting.{padding-fits, place-in, some-block}
+use Rattle.echo.proofs.Laws.Placed.{length-after}
 use Rattle.echo.proofs.last_blocks.finish.Statement.{statement}
 use Rattle.echo.proofs.last_blocks.finish.Tie as tie
 
@@ -28,10 +30,10 @@ last-counter-requires : tie.Need-last-counter-requires
 last-counter-requires c κs = search needs
 
 slice-write-waiting : tie.Need-slice-write-waiting
-slice-write-waiting c = search behind-in
+slice-write-waiting c = search place-in
 
 add-if1 : tie.Need-add-if1
-add-if1 c = search behind-fits
+add-if1 c = search padding-fits
 
 close-requires : tie.Need-close-requires
 close-requires c κs = (search, (search set-long, (search counter-fits, (search, search))))

@@ -1,11 +1,11 @@
 -- `copy_in` meets its contract, a byte a turn. Assumes nothing.
-use mathlib.Core.Path.{_≡_, refl, subst}
-use Prim.Native.Nat.{_-_, _≤_, ℕ}
+use mathlib.Core.Path.{_≡_, refl}
+use Prim.Native.Nat.{_-_, _≤_}
 use native.Mathlib.Omega.{arith}
 use lib.ListN.{length}
 use borrow.Author.Needs.{needs}
 use Rattle.echo.specs.Placed.{Placed}
-use Rattle.echo.proofs.Laws.Placed.{place-more, place-none}
+use Rattle.echo.proofs.Laws.Placed.{place-all, place-more, place-none}
 use Rattle.echo.proofs.lent.copy_in.Statement.{statement}
 use Rattle.echo.proofs.lent.copy_in.Tie as tie
 
@@ -40,9 +40,7 @@ same-length : tie.Need-same-length Inv-loop μ-loop
 same-length c = c .before .loop .inv .2 .long
 
 returns : tie.Need-returns Inv-loop μ-loop
-returns c =
-    let a = c .before .before .args in
-    subst (λ (m : ℕ). Placed (a .dst .now) (a .at) (a .src .now) m (c .before .loop .dst)) (omega arith) (c .before .loop .inv .2)
+returns c = search place-all
 
 pub copy-in-spec : {M : Type 1} → statement M
 copy-in-spec =

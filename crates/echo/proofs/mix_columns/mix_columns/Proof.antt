@@ -1,11 +1,10 @@
 -- `mix_columns` meets its contract, a column a turn. Assumes nothing.
 use mathlib.Core.Path.{_≡_}
-use Prim.Native.Nat.{_*_, _+_, _-_, _≤_}
-use native.Mathlib.Omega.{arith}
+use Prim.Native.Nat.{_-_, _≤_}
 use lib.ListN.{length}
 use borrow.Author.Needs.{needs}
 use Rattle.echo.specs.Square.{bigMixColumns}
-use Rattle.echo.proofs.Laws.Columns.{Columns, all-columns, next-part, no-columns}
+use Rattle.echo.proofs.Laws.Columns.{Columns, all-columns, no-columns, turn-long, turn-mixes}
 use Rattle.aes_round.specs.Mixing.{forward}
 use Rattle.echo.proofs.mix_columns.mix_columns.Statement.{statement}
 use Rattle.echo.proofs.mix_columns.mix_columns.Tie as tie
@@ -17,7 +16,7 @@ abbrev μ-loop : tie.MeasureT-loop
 μ-loop s₀ j₀ s j = 4 - j
 
 loop-holds : tie.Need-loop-holds Inv-loop μ-loop
-loop-holds c = (search needs, search needs, no-columns _ _ (search needs))
+loop-holds c = (search needs, search needs, search no-columns)
 
 mul-at : tie.Need-mul-at Inv-loop μ-loop
 mul-at c = search needs
@@ -44,17 +43,14 @@ loop-less : tie.Need-loop-less Inv-loop μ-loop
 loop-less c = search needs
 
 loop-again : tie.Need-loop-again Inv-loop μ-loop
-loop-again c =
-    let L = c .before .before .before .before .before .loop in
-    let next = next-part _ _ _ _ _ (64 * L .j + 64 - 64 * L .j) (omega arith) (L .inv .0) (search needs) (L .inv .2) (c .before .before .mix-words .ensures) in
-    (next .0, search needs, next .1)
+loop-again c = (search turn-long, search needs, search turn-mixes)
 
 same-length : tie.Need-same-length Inv-loop μ-loop
 same-length c = search needs
 
 returns : tie.Need-returns Inv-loop μ-loop
 unfolding bigMixColumns
-returns c = all-columns _ _ _ _ (c .before .loop .inv .2) (search needs)
+returns c = search all-columns
 
 pub mix-columns-spec : {M : Type 1} → statement M
 mix-columns-spec =

@@ -1,11 +1,11 @@
 -- `mix_words_back` meets its contract, a byte position a turn. Assumes nothing.
-use mathlib.Core.Path.{_∙_, ap, sym}
 use Prim.Native.Nat.{_-_}
 use native.Mathlib.Omega.{arith}
 use lib.ListN.{length-set}
 use borrow.Author.Needs.{needs}
-use Rattle.echo.proofs.Laws.Columns.{Mixed, mixed-all, mixed-more, mixed-none, old-column}
-use Rattle.aes_round.specs.Mixing.{backward, mixColumn}
+use Rattle.echo.proofs.Laws.Columns.{Mixed, mixed-all, mixed-more, mixed-none}
+use Rattle.aes_round.specs.Mixing.{backward}
+use Rattle.echo.proofs.Laws.Placed.{as-long}
 use Rattle.echo.proofs.mix_columns.mix_words_back.Statement.{statement}
 use Rattle.echo.proofs.mix_columns.mix_words_back.Tie as tie
 
@@ -16,7 +16,7 @@ abbrev μ-loop : tie.MeasureT-loop
 μ-loop c₀ b₀ c b = 16 - b
 
 loop-holds : tie.Need-loop-holds Inv-loop μ-loop
-loop-holds c = mixed-none _ _ (c .before .pre)
+loop-holds c = search mixed-none
 
 slice-read-c : tie.Need-slice-read-c Inv-loop μ-loop
 slice-read-c c = search needs
@@ -82,15 +82,13 @@ loop-less : tie.Need-loop-less Inv-loop μ-loop
 loop-less c = search needs
 
 loop-again : tie.Need-loop-again Inv-loop μ-loop
-loop-again c =
-    let L = c .before .before .before .before .before .before .loop in
-    mixed-more _ _ _ _ _ (L .inv) (search needs) (c .mix-back .ensures ∙ ap (mixColumn backward) (old-column _ _ _ _ (L .inv) (search needs)))
+loop-again c = search mixed-more
 
 same-length : tie.Need-same-length Inv-loop μ-loop
-same-length c = c .before .loop .inv .long ∙ sym (c .before .before .before .pre)
+same-length c = search as-long
 
 returns : tie.Need-returns Inv-loop μ-loop
-returns c = mixed-all _ _ _ _ (c .before .loop .inv) (search needs)
+returns c = search mixed-all
 
 pub mix-words-back-spec : {M : Type 1} → statement M
 mix-words-back-spec =

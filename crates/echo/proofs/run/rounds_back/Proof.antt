@@ -1,14 +1,8 @@
 -- `rounds_back` meets its contract: a refusal leaves the square, and else the run is `run_back`'s. Assumes nothing.
-use mathlib.Core.List.{List}
-use mathlib.Core.Path.{_∙_, ap, sym}
-use Prim.Native.Nat.{ℕ}
-use native.Mathlib.Omega.{arith}
-use lib.ListN.{length}
 use borrow.Author.Needs.{needs}
 use Rattle.echo.specs.Routines.{roundsBackLeave}
-use Rattle.echo.specs.Square.{keysFrom, roundsBack}
-use Rattle.echo.proofs.Laws.Refusals.{counters-fit, done, kept, rounds-fit}
-use Rattle.echo.proofs.Laws.Words.{sixteen-are}
+use Rattle.echo.specs.Square.{roundsBack}
+use Rattle.echo.proofs.Laws.Refusals.{refused, rounds-counters, rounds-done, rounds-salt, rounds-square, none-refused}
 use Rattle.echo.proofs.run.rounds_back.Statement.{statement}
 use Rattle.echo.proofs.run.rounds_back.Tie as tie
 
@@ -17,36 +11,20 @@ rounds-refusal-requires c κs = search needs
 
 returns : tie.Need-returns
 unfolding roundsBackLeave
-returns c =
-    let e = c .before .rounds-refusal .ensures in
-    (e, sym (kept _ _ _ (λ z. c .if1 .taken (e ∙ z))))
+returns c = (search, search refused)
 
 sixteen-requires : tie.Need-sixteen-requires
-sixteen-requires c κs =
-    let A = c .before .before .before .before .before .args in
-    let F = rounds-fit (length (A .square .now)) (A .count) (A .counter) (length (A .salt .now)) (sym (c .before .before .rounds-refusal .ensures) ∙ c .before .if1 .left) in
-    omega (arith, F .salt-fits)
+sixteen-requires c κs = search rounds-salt
 
 run-back-requires : tie.Need-run-back-requires
-run-back-requires c κs =
-    let A = c .before .before .before .before .before .before .args in
-    let F = rounds-fit (length (A .square .now)) (A .count) (A .counter) (length (A .salt .now)) (sym (c .before .before .before .rounds-refusal .ensures) ∙ c .before .before .if1 .left) in
-    (F .square-fits, counters-fit F)
+run-back-requires c κs = (search rounds-square, search rounds-counters)
 
 same-length : tie.Need-same-length
 same-length c = search needs
 
 returns-2 : tie.Need-returns-2
 unfolding roundsBackLeave
-returns-2 c =
-    let A = c .before .before .before .before .before .before .before .before .before .args in
-    let F = rounds-fit (length (A .square .now)) (A .count) (A .counter) (length (A .salt .now)) (sym (c .before .before .before .before .before .before .rounds-refusal .ensures) ∙ c .before .before .before .before .before .if1 .left) in
-    let z = sym (c .before .before .before .before .before .before .rounds-refusal .ensures) ∙ c .before .before .before .before .before .if1 .left in (
-      sym z,
-      c .before .before .run-back .ensures
-          ∙ ap (λ (x : List ℕ). roundsBack (A .count) (keysFrom (A .counter)) x (A .square .now)) (c .before .before .before .sixteen .ensures ∙ sixteen-are _ (F .salt-fits))
-          ∙ sym (done _ _ _ z),
-    )
+returns-2 c = (search none-refused, search (rounds-done roundsBack))
 
 pub rounds-back-spec : {M : Type 1} → statement M
 rounds-back-spec =

@@ -1,22 +1,21 @@
 -- `run_back` meets its contract, a round a turn, the last first. Assumes nothing.
-use mathlib.Core.Path.{_∙_, _≡_, ap, refl}
-use Prim.Native.Nat.{_+_, _-_, _≤_, ℕ}
+use mathlib.Core.Path.{_≡_}
+use Prim.Native.Nat.{_≤_}
 use native.Mathlib.Omega.{arith}
 use lib.ListN.{length}
 use borrow.Author.Needs.{needs}
-use Rattle.echo.specs.Square.{keysFrom, roundsBack}
-use Rattle.echo.proofs.Laws.Square.{next-round-back}
+use Rattle.echo.proofs.Laws.Square.{Left, all-left, less-left, none-left}
 use Rattle.echo.proofs.run.run_back.Statement.{statement}
 use Rattle.echo.proofs.run.run_back.Tie as tie
 
 abbrev Inv-loop : tie.InvT-loop
-Inv-loop s₀ count counter salt left₀ s left = (length s ≡ 256) × (left ≤ count) × (roundsBack left (keysFrom counter) salt s ≡ roundsBack count (keysFrom counter) salt s₀)
+Inv-loop s₀ count counter salt left₀ s left = (length s ≡ 256) × (left ≤ count) × Left counter salt s₀ count left s
 
 abbrev μ-loop : tie.MeasureT-loop
 μ-loop s₀ count counter salt left₀ s left = left
 
 loop-holds : tie.Need-loop-holds Inv-loop μ-loop
-loop-holds c = (search needs, search needs, refl)
+loop-holds c = (search needs, search needs, search all-left)
 
 sub-left : tie.Need-sub-left Inv-loop μ-loop
 sub-left c = search needs
@@ -40,27 +39,13 @@ loop-less : tie.Need-loop-less Inv-loop μ-loop
 loop-less c = search needs
 
 loop-again : tie.Need-loop-again Inv-loop μ-loop
-loop-again c =
-    let A = c .before .before .before .before .before .before .before .before .before .before .before .before .before .before .before .args in
-    let L = c .before .before .before .before .before .before .before .before .before .before .before .before .before .loop in
-    let e : L .left - 1 + 1 ≡ L .left = omega arith in (
-      search needs,
-      search needs,
-      next-round-back _ _ _ _ _ _ _ (c .before .before .before .before .before .before .before .before .before .before .mix-columns-back .ensures) (c .before .before .before .before .before .before .shift-rows-back .ensures) (c .before .before .sub-words-back .ensures)
-          ∙ ap (λ (n : ℕ). roundsBack n (keysFrom (A .counter)) (A .salt) (L .s)) e
-          ∙ L .inv .2,
-    )
+loop-again c = (search needs, search needs, search less-left)
 
 same-length : tie.Need-same-length Inv-loop μ-loop
 same-length c = search needs
 
 returns : tie.Need-returns Inv-loop μ-loop
-unfolding roundsBack
-returns c =
-    let A = c .before .before .before .args in
-    let L = c .before .loop in
-    let e : 0 ≡ L .left = omega arith in
-    ap (λ (n : ℕ). roundsBack n (keysFrom (A .counter)) (A .salt) (L .s)) e ∙ L .inv .2
+returns c = search none-left
 
 pub run-back-spec : {M : Type 1} → statement M
 run-back-spec =

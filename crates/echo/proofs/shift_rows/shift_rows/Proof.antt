@@ -1,18 +1,15 @@
 -- `shift_rows` meets its contract: the copy is the square, and the loop rewrites word after word out of it. Assumes nothing.
-use mathlib.Core.List.{List}
-use mathlib.Core.Path.{_∙_, _≡_, ap, refl, subst}
-use Prim.Native.Nat.{_%_, _*_, _+_, _-_, _≤_, ℕ}
-use lib.ListN.{getD, length, replicate}
+use mathlib.Core.Path.{_≡_}
+use Prim.Native.Nat.{_-_, _≤_}
+use lib.ListN.{length}
 use borrow.Author.Needs.{needs}
-use Rattle.echo.specs.Placed.{Placed}
 use Rattle.echo.proofs.Laws.Placed.{placed-whole}
-use Rattle.echo.proofs.Laws.Words.{Words, all-words, next-word, no-words, shift-words}
-use Rattle.aes_round.specs.Bytes.{tab}
+use Rattle.echo.proofs.Laws.Words.{Moved, moved-forth, next-moved, none-moved}
 use Rattle.echo.proofs.shift_rows.shift_rows.Statement.{statement}
 use Rattle.echo.proofs.shift_rows.shift_rows.Tie as tie
 
 abbrev Inv-loop : tie.InvT-loop
-Inv-loop s₀ copy j₀ s j = (length s ≡ 256) × (j ≤ 16) × (copy ≡ s₀) × Words (λ i. tab 16 (λ b. getD s₀ (16 * (5 * i % 16) + b) 0)) s₀ j s
+Inv-loop s₀ copy j₀ s j = (length s ≡ 256) × (j ≤ 16) × (copy ≡ s₀) × Moved 5 s₀ j s
 
 abbrev μ-loop : tie.MeasureT-loop
 μ-loop s₀ copy j₀ s j = 16 - j
@@ -24,11 +21,7 @@ copy-in-requires : tie.Need-copy-in-requires Inv-loop μ-loop
 copy-in-requires c κs = search needs
 
 loop-holds : tie.Need-loop-holds Inv-loop μ-loop
-loop-holds c =
-    let A = c .before .before .before .before .before .args in
-    let l : length (A .s .now) ≡ 256 = c .before .before .before .before .before .pre in
-    let P = subst (λ (n : ℕ). Placed (replicate 256 0) 0 (A .s .now) n (c .before .copy-in .last .0)) l (c .before .copy-in .ensures) in
-    (search needs, search needs, placed-whole _ _ _ 256 refl l P, no-words _ _ l)
+loop-holds c = (search needs, search needs, search placed-whole, search none-moved)
 
 slice-aggregate-sixteen : tie.Need-slice-aggregate-sixteen Inv-loop μ-loop
 slice-aggregate-sixteen c = search needs
@@ -58,23 +51,13 @@ loop-less : tie.Need-loop-less Inv-loop μ-loop
 loop-less c = search needs
 
 loop-again : tie.Need-loop-again Inv-loop μ-loop
-loop-again c =
-    let L = c .before .before .before .before .before .before .before .before .loop in
-    let w = c .before .before .before .before .before .sixteen .result in
-    let l : length w ≡ 16 = search needs in
-    let P = subst (λ (n : ℕ). Placed (L .s) (16 * L .j) w n (c .before .before .copy-in2 .last .0)) l (c .before .before .copy-in2 .ensures) in (
-      search needs,
-      search needs,
-      L .inv .2,
-      next-word _ _ _ _ _ _ (L .inv .3) (search needs) P
-          (c .before .before .before .before .before .sixteen .ensures ∙ ap (λ (s : List ℕ). tab 16 (λ b. getD s (16 * (5 * L .j % 16) + b) 0)) (L .inv .2)),
-    )
+loop-again c = (search needs, search needs, search, search (needs, next-moved))
 
 same-length : tie.Need-same-length Inv-loop μ-loop
 same-length c = search needs
 
 returns : tie.Need-returns Inv-loop μ-loop
-returns c = all-words _ _ _ _ (c .before .loop .inv .3) (search needs) ∙ shift-words _
+returns c = search moved-forth
 
 pub shift-rows-spec : {M : Type 1} → statement M
 shift-rows-spec =

@@ -1,24 +1,21 @@
 -- `sub_words_back` meets its contract: the loop rewrites word after word. Assumes nothing.
-use mathlib.Core.List.{List}
-use mathlib.Core.Path.{_∙_, _≡_, ap, ap₂, subst}
-use Prim.Native.Nat.{_*_, _-_, _≤_, ℕ}
+use mathlib.Core.Path.{_≡_}
+use Prim.Native.Nat.{_-_, _≤_}
 use lib.ListN.{length}
 use borrow.Author.Needs.{needs}
-use Rattle.echo.specs.Placed.{Placed}
 use Rattle.echo.specs.Square.{bigSubWordsBack, keysFrom, word}
-use Rattle.echo.proofs.Laws.Words.{Words, all-words, next-word, no-words, old-word}
-use Rattle.aes_round.specs.Rounds.{aesRoundBack}
+use Rattle.echo.proofs.Laws.Words.{Through, all-through, back, next-through, none-through}
 use Rattle.echo.proofs.sub_words.sub_words_back.Statement.{statement}
 use Rattle.echo.proofs.sub_words.sub_words_back.Tie as tie
 
 abbrev Inv-loop : tie.InvT-loop
-Inv-loop s₀ counter salt j₀ s j = (length s ≡ 256) × (j ≤ 16) × Words (λ i. aesRoundBack (aesRoundBack (word s₀ i) salt) (keysFrom counter i)) s₀ j s
+Inv-loop s₀ counter salt j₀ s j = (length s ≡ 256) × (j ≤ 16) × Through back (keysFrom counter) salt s₀ j s
 
 abbrev μ-loop : tie.MeasureT-loop
 μ-loop s₀ counter salt j₀ s j = 16 - j
 
 loop-holds : tie.Need-loop-holds Inv-loop μ-loop
-loop-holds c = (search needs, search needs, no-words _ _ (search needs))
+loop-holds c = (search needs, search needs, search none-through)
 
 mul-sixteen : tie.Need-mul-sixteen Inv-loop μ-loop
 mul-sixteen c = search needs
@@ -51,22 +48,14 @@ loop-less : tie.Need-loop-less Inv-loop μ-loop
 loop-less c = search needs
 
 loop-again : tie.Need-loop-again Inv-loop μ-loop
-loop-again c =
-    let A = c .before .before .before .before .before .before .before .before .before .before .before .before .args in
-    let L = c .before .before .before .before .before .before .before .before .before .before .loop in
-    let W = c .before .before .before .before .before .before .before .sixteen .ensures ∙ old-word _ _ _ _ (L .inv .2) in
-    let K = c .before .before .before .before .before .before .counter-key .ensures in
-    let t = c .before .before .before .before .before .two-rounds-back .result in
-    let l : length t ≡ 16 = search needs in
-    let P = subst (λ (n : ℕ). Placed (L .s) (16 * L .j) t n (c .before .before .copy-in .last .0)) l (c .before .before .copy-in .ensures) in
-    (search needs, search needs, next-word _ _ _ _ _ _ (L .inv .2) (search needs) P (c .before .before .before .before .before .two-rounds-back .ensures ∙ ap₂ aesRoundBack (ap (λ (x : List ℕ). aesRoundBack x (A .salt)) W) K))
+loop-again c = (search needs, search needs, search (needs, next-through))
 
 same-length : tie.Need-same-length Inv-loop μ-loop
 same-length c = search needs
 
 returns : tie.Need-returns Inv-loop μ-loop
 unfolding bigSubWordsBack
-returns c = all-words _ _ _ _ (c .before .loop .inv .2) (search needs)
+returns c = all-through _ _ _ _ _ _ (c .before .loop .inv .2) (search needs)
 
 pub sub-words-back-spec : {M : Type 1} → statement M
 sub-words-back-spec =

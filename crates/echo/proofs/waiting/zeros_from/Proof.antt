@@ -1,10 +1,10 @@
 -- `zeros_from` meets its contract. The loop's invariant: the bytes passed are zero. Assumes nothing.
-use mathlib.Core.Path.{_∙_, _≡_, refl, sym}
+use mathlib.Core.Path.{_≡_, refl}
 use Prim.Native.Nat.{_-_, _≤_}
 use lib.ListN.{drop, length}
 use borrow.Author.Needs.{needs}
 use Rattle.echo.specs.Session.{allZero}
-use Rattle.echo.proofs.Laws.Sessions.{zero-end, zero-next, zero-stop}
+use Rattle.echo.proofs.Laws.Waiting.{zero-end, zero-next, zero-stop}
 use Rattle.echo.proofs.waiting.zeros_from.Statement.{statement}
 use Rattle.echo.proofs.waiting.zeros_from.Tie as tie
 
@@ -21,7 +21,7 @@ shared-slice-read-if1 : tie.Need-shared-slice-read-if1 Inv-loop μ-loop
 shared-slice-read-if1 c = search needs
 
 returns : tie.Need-returns Inv-loop μ-loop
-returns c = sym (zero-stop _ _ (c .before .before .loop-test .taken) (c .if1 .taken)) ∙ c .before .before .before .loop .inv .1
+returns c = search zero-stop
 
 add-i : tie.Need-add-i Inv-loop μ-loop
 add-i c = search needs
@@ -30,10 +30,10 @@ loop-less : tie.Need-loop-less Inv-loop μ-loop
 loop-less c = search needs
 
 loop-again : tie.Need-loop-again Inv-loop μ-loop
-loop-again c = (search needs, sym (zero-next _ _ (c .before .before .loop-test .taken) (c .if1 .left)) ∙ c .before .before .before .loop .inv .1)
+loop-again c = (search needs, search zero-next)
 
 returns-2 : tie.Need-returns-2 Inv-loop μ-loop
-returns-2 c = sym (zero-end _ _ (c .loop-test .left) (c .before .loop .inv .0)) ∙ c .before .loop .inv .1
+returns-2 c = search zero-end
 
 pub zeros-from-spec : {M : Type 1} → statement M
 zeros-from-spec =

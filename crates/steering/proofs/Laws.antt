@@ -6,3 +6,4 @@ pub mod Tables
 pub mod Fingerprint
 pub mod Example
 pub mod Complete
+pub mod Outcomes

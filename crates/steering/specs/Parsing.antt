@@ -3,7 +3,7 @@ use mathlib.Core.List.{List, [], _∷_, _++_}
 use Prim.Native.Nat.{ℕ, zero, suc}
 use lib.ListN.{length}
 use Rattle.steering.specs.Reading.{readAt}
-use Rattle.steering.specs.Records.{bodyOf, kindOf}
+use Rattle.steering.specs.Records.{Fits, bodyOf, kindOf}
 use Rattle.steering.specs.declared.counting.Counted.{Counted}
 use Rattle.steering.specs.declared.reading.Reading.{Reading}
 use Rattle.steering.specs.declared.reading.Reading.the-variants.{End, Found, Refused}
@@ -42,6 +42,11 @@ countOf (refused number place) = record { refusal = number; place = place; count
 abbrev pub tableOf : List Record → List ℕ
 tableOf [] = []
 tableOf (r ∷ rs) = kindOf r ∷ bodyOf r ++ tableOf rs
+
+-- the numbers of all records fit
+abbrev pub AllFit : List Record → Type 0
+AllFit [] = Unit {0}
+AllFit (r ∷ rs) = Fits r × AllFit rs
 
 -- all bodies in order
 abbrev pub bodies : List Record → List ℕ

@@ -1,6 +1,6 @@
 -- The records of a steering table: the kind of each and its body, byte by byte. Assumes nothing.
 use mathlib.Core.List.{List, _++_}
-use Prim.Native.Nat.{ℕ}
+use Prim.Native.Nat.{ℕ, _^_, _<_}
 use lib.Dec.{eqb}
 use Rattle.steering.specs.Numbers.{bytesOf, either, numberAt}
 use Rattle.steering.specs.declared.records.Radio.{Radio}
@@ -45,3 +45,11 @@ recordOf kind body =
     (either (eqb kind 3) (Floor (record { radio = High; level = numberAt 2 0 body }))
     (either (eqb kind 4) (Hold (record { time = numberAt 4 0 body }))
     (Note (record { first = numberAt 8 0 body; second = numberAt 8 8 body; third = numberAt 8 16 body; fourth = numberAt 8 24 body })))))
+
+-- ---- numbers that fit their fields
+
+abbrev pub Fits : Record → Type 0
+Fits (Node a) = a .address < 256 ^ 6
+Fits (Floor f) = f .level < 256 ^ 2
+Fits (Hold h) = h .time < 256 ^ 4
+Fits (Note n) = (n .first < 256 ^ 8) × (n .second < 256 ^ 8) × (n .third < 256 ^ 8) × (n .fourth < 256 ^ 8)

@@ -1,17 +1,17 @@
 -- Every list of records whose numbers fit their fields is what its table of at most 4096 bytes is read as. Assumes nothing.
 use mathlib.Core.Path.{_≡_, refl, sym, ap, _∙_, subst}
-use mathlib.Core.List.{List, [], _∷_, _++_, append-assoc}
-use Prim.Native.Nat.{ℕ, zero, suc, _+_, _%_, _^_, _<_, _≤_}
-use native.Mathlib.Nat.{mod-eq-of-lt, pow-succ'}
+use mathlib.Core.List.{List, [], _∷_, _++_, append-assoc, append-nil}
+use Prim.Native.Nat.{ℕ, zero, suc, _+_, _-_, _%_, _^_, _<_, _≤_}
+use native.Mathlib.Nat.{mod-eq-of-lt, pow-succ', suc-add, zero-add}
 use native.Mathlib.Omega.{arith}
 use lib.Arith.{mod-mul}
 use lib.Dec.{lit<}
 use lib.ListN.{drop, getD, length, length-append, take}
 use lib.Seq.{drop-at, drop-drop, getD-drop, take-all, take-at}
 use Rattle.steering.specs.Numbers.{bigEndian, bytesOf, numberAt}
-use Rattle.steering.specs.Parsing.{accepted, goOn, inFront, parse, parseFrom, tableOf}
+use Rattle.steering.specs.Parsing.{AllFit, Parsed, accepted, goOn, inFront, parse, parseFrom, refused, tableOf}
 use Rattle.steering.specs.Reading.{readAt, recordAt}
-use Rattle.steering.specs.Records.{bodyLength, bodyOf, floorKind, kindOf, recordOf}
+use Rattle.steering.specs.Records.{Fits, bodyLength, bodyOf, floorKind, kindOf, recordOf}
 use Rattle.steering.specs.declared.reading.Reading.{Reading}
 use Rattle.steering.specs.declared.reading.Reading.the-variants.{Found}
 use Rattle.steering.specs.declared.records.Radio.{Radio}
@@ -38,13 +38,6 @@ number-back : (n x : ℕ) (rest : List ℕ) → x < 256 ^ n → numberAt n 0 (by
 number-back n x rest h = ap bigEndian (take-at (bytesOf n x) rest n (length-bytes n x)) ∙ number-of-bytes n x ∙ mod-eq-of-lt h
 
 -- ---- one record
-
--- the numbers of a record fit its fields
-abbrev pub Fits : Record → Type 0
-Fits (Node a) = a .address < 256 ^ 6
-Fits (Floor f) = f .level < 256 ^ 2
-Fits (Hold h) = h .time < 256 ^ 4
-Fits (Note n) = (n .first < 256 ^ 8) × (n .second < 256 ^ 8) × (n .third < 256 ^ 8) × (n .fourth < 256 ^ 8)
 
 alone : (n x : ℕ) → x < 256 ^ n → numberAt n 0 (bytesOf n x) ≡ x
 alone n x h = ap bigEndian (take-all n (bytesOf n x) (omega (arith, length-bytes n x))) ∙ number-of-bytes n x ∙ mod-eq-of-lt h
@@ -160,36 +153,83 @@ module _ (p rest : List ℕ) (r : Record) where
 
 -- ---- whole tables
 
--- the numbers of all records fit
-abbrev pub AllFit : List Record → Type 0
-AllFit [] = Unit {0}
-AllFit (r ∷ rs) = Fits r × AllFit rs
+-- records in front of what the rest is parsed to
+abbrev pub allInFront : List Record → Parsed → Parsed
+allInFront [] q = q
+allInFront (r ∷ rs) q = inFront r (allInFront rs q)
 
-complete-from : (n : ℕ) (p : List ℕ) (rs : List Record) → AllFit rs → length rs < n → length (p ++ tableOf rs) ≤ 4096 → parseFrom n (p ++ tableOf rs) (length p) ≡ accepted rs
+-- the bytes of some records behind p are read as these, and then it goes on with what stands behind them
+through : (n : ℕ) (p : List ℕ) (rs : List Record) (tail : List ℕ) → AllFit rs → length (p ++ (tableOf rs ++ tail)) ≤ 4096
+    → parseFrom (length rs + n) (p ++ (tableOf rs ++ tail)) (length p) ≡ allInFront rs (parseFrom n (p ++ (tableOf rs ++ tail)) (length (p ++ tableOf rs)))
 unfolding parseFrom t
-complete-from zero p rs f l h = absurd (omega arith)
-complete-from (suc n) p [] f l h =
-    ap (λ (x : Reading). goOn x (parseFrom n (p ++ []))) (at-end (p ++ []) (length p) (omega (arith, length-append p [])) h (omega (arith, length-append p [])))
-complete-from (suc n) p (r ∷ rs) f l h =
-    ap (λ (x : Reading). goOn x (parseFrom n (p ++ tableOf (r ∷ rs)))) (found-there p (tableOf rs) r (f .0) h)
-    ∙ ap (inFront r) (next ∙ complete-from n q rs (f .1) (omega arith) (subst (λ (u : List ℕ). length u ≤ 4096) same h))
+through n p [] tail f h = rw (zero-add n, append-nil p) refl
+through n p (r ∷ rs) tail f h =
+    rw (suc-add (length rs) n, assoc)
+    (ap (λ (x : Reading). goOn x (parseFrom (length rs + n) whole)) (found-there p (tableOf rs ++ tail) r (f .0) fits)
+    ∙ ap (inFront r) (next ∙ through n q rs tail (f .1) (subst (λ (u : List ℕ). length u ≤ 4096) same fits) ∙ back))
   where
+    assoc : bodyOf r ++ tableOf rs ++ tail ≡ bodyOf r ++ (tableOf rs ++ tail)
+    assoc = append-assoc (bodyOf r) (tableOf rs) tail
+
+    whole : List ℕ
+    whole = p ++ (kindOf r ∷ bodyOf r ++ (tableOf rs ++ tail))
+
+    fits : length whole ≤ 4096
+    fits = subst (λ (u : List ℕ). length (p ++ kindOf r ∷ u) ≤ 4096) assoc h
+
     q : List ℕ
     q = p ++ (kindOf r ∷ bodyOf r)
 
-    same : p ++ tableOf (r ∷ rs) ≡ q ++ tableOf rs
-    same = sym (append-assoc p (kindOf r ∷ bodyOf r) (tableOf rs))
+    same : whole ≡ q ++ (tableOf rs ++ tail)
+    same = sym (append-assoc p (kindOf r ∷ bodyOf r) (tableOf rs ++ tail))
 
     place : length p + 1 + length (bodyOf r) ≡ length q
     place = omega (arith, length-append p (kindOf r ∷ bodyOf r))
 
-    next : parseFrom n (p ++ tableOf (r ∷ rs)) (length p + 1 + length (bodyOf r)) ≡ parseFrom n (q ++ tableOf rs) (length q)
+    next : parseFrom (length rs + n) whole (length p + 1 + length (bodyOf r)) ≡ parseFrom (length rs + n) (q ++ (tableOf rs ++ tail)) (length q)
     next = rw (same, place) refl
 
+    back : allInFront rs (parseFrom n (q ++ (tableOf rs ++ tail)) (length (q ++ tableOf rs)))
+        ≡ allInFront rs (parseFrom n whole (length (p ++ kindOf r ∷ (bodyOf r ++ tableOf rs))))
+    back = rw (← same, append-assoc p (kindOf r ∷ bodyOf r) (tableOf rs)) refl
+
 -- a table has at least as many bytes as records
-no-more : (rs : List Record) → length rs ≤ length (tableOf rs)
+pub no-more : (rs : List Record) → length rs ≤ length (tableOf rs)
 no-more [] = omega arith
 no-more (r ∷ rs) = omega (arith, no-more rs, length-append (bodyOf r) (tableOf rs))
 
+-- a table that begins with the bytes of some records: these, and then what the parse makes of the rest
+pub parse-through : (rs : List Record) (tail : List ℕ) → AllFit rs → length (tableOf rs ++ tail) ≤ 4096
+    → (n : ℕ) × (parse (tableOf rs ++ tail) ≡ allInFront rs (parseFrom (suc n) (tableOf rs ++ tail) (length (tableOf rs))))
+parse-through rs tail f h = (
+  length (tableOf rs ++ tail) - length rs,
+  ap (λ (k : ℕ). parseFrom k (tableOf rs ++ tail) 0) fuel ∙ through (suc (length (tableOf rs ++ tail) - length rs)) [] rs tail f h,
+)
+  where
+    fuel : suc (length (tableOf rs ++ tail)) ≡ length rs + suc (length (tableOf rs ++ tail) - length rs)
+    fuel = omega (arith, no-more rs, length-append (tableOf rs) tail)
+
+all-accepted : (rs : List Record) → allInFront rs (accepted []) ≡ accepted rs
+all-accepted [] = refl
+all-accepted (r ∷ rs) = ap (inFront r) (all-accepted rs)
+
+pub all-refused : (rs : List Record) (number place : ℕ) → allInFront rs (refused number place) ≡ refused number place
+all-refused [] number place = refl
+all-refused (r ∷ rs) number place = ap (inFront r) (all-refused rs number place)
+
 pub complete : (rs : List Record) → AllFit rs → length (tableOf rs) ≤ 4096 → parse (tableOf rs) ≡ accepted rs
-complete rs f h = complete-from (suc (length (tableOf rs))) [] rs f (omega (arith, no-more rs)) h
+unfolding parseFrom
+complete rs f h = subst (λ (u : List ℕ). parse u ≡ accepted rs) (append-nil (tableOf rs)) whole
+  where
+    u : List ℕ
+    u = tableOf rs ++ []
+
+    long : length u ≡ length (tableOf rs)
+    long = ap length (append-nil (tableOf rs))
+
+    whole : parse u ≡ accepted rs
+    whole =
+        let T = parse-through rs [] f (omega (arith, long)) in
+        T .1
+        ∙ ap (λ (x : Reading). allInFront rs (goOn x (parseFrom (T .0) u))) (at-end u (length (tableOf rs)) (omega (arith, long)) (omega (arith, long)) (sym long))
+        ∙ all-accepted rs

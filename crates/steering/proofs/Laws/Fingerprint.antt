@@ -23,9 +23,10 @@ use Rattle.steering.specs.declared.fingerprinting.Fingerprinted.{Fingerp
 use Rattle.steering.specs.declared.reading.Reading.{Reading}
 use Rattle.steering.specs.declared.reading.Reading.the-variants.{End, Found, Refused}
 use Rattle.steering.specs.declared.records.Record.{Record}
+use Rattle.steering.proofs.Laws.Outcomes.{accepted-exactly}
 use Rattle.steering.proofs.Laws.Parsing.{parse-step}
-use Rattle.steering.proofs.Laws.Reading.{found, too-long}
-use Rattle.steering.proofs.Laws.Tables.{accepted-is, there}
+use Rattle.steering.proofs.Laws.Reading.{found}
+use Rattle.steering.proofs.Laws.Tables.{there}
 
 -- ---- a refusal has a number above 0
 
@@ -211,17 +212,6 @@ module _ (salt t : List ℕ) (at : ℕ) (s : Session) (W : Walked salt t at s) (
 
 -- ---- reading
 
-accepted-fits : (t : List ℕ) → refusalOf (parse t) ≡ 0 → length t ≤ 4096
-unfolding parseFrom
-accepted-fits t z = by (ltb 4096 (length t)) refl
-  where
-    by : (x : Bool) → ltb 4096 (length t) ≡ x → length t ≤ 4096
-    by true q =
-        let e : refusalOf (goOn (readAt t 0) (parseFrom (length t) t)) ≡ 8 = ap (λ (x : Reading). refusalOf (goOn x (parseFrom (length t) t))) (too-long t 0 (omega arith) (ltb-true 4096 (length t) q)) in
-        let w : _≡_ {A = ℕ} 8 0 = sym e ∙ z in
-        absurd (omega arith)
-    by false q = ltb-false 4096 (length t) q
-
 bodies-length : (rs : List Record) → length (bodies rs) ≤ length (tableOf rs)
 bodies-length [] = omega arith
 bodies-length (r ∷ rs) = omega (arith, length-append (bodyOf r) (bodies rs), length-append (bodyOf r) (tableOf rs), bodies-length rs)
@@ -231,7 +221,7 @@ module _ (salt t room : List ℕ) (b : AreBytes t) (z : refusalOf (parse t) ≡ 
   few-bytes = by (parse t) refl (clear-from (suc (length t)) t 0) z
     where
       by : (q : Parsed) → parse t ≡ q → Clear q → refusalOf q ≡ 0 → length (bodiesOf q) ≤ 4096
-      by (accepted rs) p c z = omega (arith, bodies-length rs, ap length (accepted-is t b rs p), accepted-fits t (ap refusalOf p))
+      by (accepted rs) p c z = let X = accepted-exactly t b rs .0 p in omega (arith, bodies-length rs, ap length (X .0), X .2)
       by (refused number place) p c z = absurd (omega arith)
 
   -- the session of all bodies is read

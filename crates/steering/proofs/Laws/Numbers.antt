@@ -53,7 +53,7 @@ pub power-pos : (n : ℕ) → 0 < 256 ^ n
 power-pos zero = omega arith
 power-pos (suc n) = rw (pow-succ' 256 n) (omega (arith, power-pos n))
 
-below : (l : List ℕ) → AreBytes l → bigEndian l < 256 ^ length l
+pub below : (l : List ℕ) → AreBytes l → bigEndian l < 256 ^ length l
 unfolding bigEndian
 below [] b = omega arith
 below (x ∷ xs) b =

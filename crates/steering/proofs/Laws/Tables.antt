@@ -1,20 +1,18 @@
--- An accepted table is exactly the bytes of its records in order. Assumes nothing.
-use mathlib.Core.Path.{_≡_, refl, sym, ap, ap₂, _∙_}
-use mathlib.Core.List.{List, [], _∷_, _++_}
-use Prim.Native.Nat.{ℕ, zero, suc, _+_, _-_, _<_}
+-- A record that was found is the bytes that stand at its place. Assumes nothing.
+use mathlib.Core.Path.{_≡_, sym, ap, ap₂, _∙_}
+use mathlib.Core.List.{List, _∷_, _++_}
+use Prim.Native.Nat.{ℕ, _+_, _-_, _<_}
 use native.Mathlib.Numerals.{add-one}
 use native.Mathlib.Omega.{arith}
 use lib.ListN.{drop, getD, length, length-drop, take, take-append-drop}
-use lib.Seq.{drop-cons, drop-drop, drop-length, length-take-le}
+use lib.Seq.{drop-cons, drop-drop, length-take-le}
 use Rattle.steering.specs.Numbers.{AreBytes}
-use Rattle.steering.specs.Parsing.{Parsed, accepted, goOn, inFront, parse, parseFrom, refused, tableOf}
 use Rattle.steering.specs.Reading.{readAt}
 use Rattle.steering.specs.Records.{bodyLength, bodyOf, kindOf}
-use Rattle.steering.specs.declared.reading.Reading.{Reading}
-use Rattle.steering.specs.declared.reading.Reading.the-variants.{End, Found, Refused}
+use Rattle.steering.specs.declared.reading.Reading.the-variants.{Found}
 use Rattle.steering.specs.declared.records.Record.{Record}
 use Rattle.steering.proofs.Laws.Numbers.{bytes-drop, bytes-take}
-use Rattle.steering.proofs.Laws.Reading.{ended, found}
+use Rattle.steering.proofs.Laws.Reading.{found}
 use Rattle.steering.proofs.Laws.Records.{Has, read-back}
 
 module _ (t : List ℕ) (b : AreBytes t) where
@@ -42,26 +40,3 @@ module _ (t : List ℕ) (b : AreBytes t) where
       (ap (λ (j : ℕ). drop j t) (sym (add-one place))
       ∙ sym (take-append-drop (next - (place + 1)) d)
       ∙ ap₂ (λ (x y : List ℕ). x ++ y) (sym (T .body-is)) (drop-drop (next - (place + 1)) (place + 1) t ∙ ap (λ (j : ℕ). drop j t) n))
-
-  -- one record more, where the rest from each next place on is right
-  sound-step : (n place : ℕ) (rs : List Record) → ((next : ℕ) (more : List Record) → parseFrom n t next ≡ accepted more → drop next t ≡ tableOf more)
-      → (x : Reading) → x ≡ readAt t place → goOn x (parseFrom n t) ≡ accepted rs → drop place t ≡ tableOf rs
-  sound-step n place rs again (Found r next) p q = rest (parseFrom n t next) refl q
-    where
-      rest : (y : Parsed) → parseFrom n t next ≡ y → inFront r y ≡ accepted rs → drop place t ≡ tableOf rs
-      rest (accepted more) f g =
-          let same : r ∷ more ≡ rs = cc in
-          begins place next r p ∙ ap (λ (l : List ℕ). kindOf r ∷ bodyOf r ++ l) (again next more f) ∙ ap tableOf same
-      rest (refused number at) f g = let z : _≡_ {A = ℕ} 0 1 = cc in absurd (omega arith)
-  sound-step n place rs again End p q =
-      let same : [] ≡ rs = cc in
-      ap (λ (j : ℕ). drop j t) (ended t place p) ∙ drop-length t ∙ ap tableOf same
-  sound-step n place rs again (Refused number at) p q = let z : _≡_ {A = ℕ} 0 1 = cc in absurd (omega arith)
-
-  sound-from : (n place : ℕ) (rs : List Record) → parseFrom n t place ≡ accepted rs → drop place t ≡ tableOf rs
-  unfolding parseFrom
-  sound-from zero place rs e = let z : _≡_ {A = ℕ} 0 1 = cc in absurd (omega arith)
-  sound-from (suc n) place rs e = sound-step n place rs (λ next more f. sound-from n next more f) (readAt t place) refl e
-
-  pub accepted-is : (rs : List Record) → parse t ≡ accepted rs → t ≡ tableOf rs
-  accepted-is rs e = sound-from (suc (length t)) 0 rs e

@@ -1,0 +1,70 @@
+-- The theorems of this crate that the pages quote, each closed: what it assumes stands in its statement. Assumes nothing.
+use mathlib.Core.Path.{_≡_, sym}
+use mathlib.Core.Logic.{_⊎_, _↔_}
+use mathlib.Core.List.{List, _∷_, _++_}
+use Prim.Native.Nat.{ℕ, suc, _+_, _-_, _<_, _≤_}
+use native.Mathlib.Omega.{arith}
+use lib.ListN.{drop, getD, length, take}
+use Rattle.steering.specs.Fingerprint.{fingerprintAnswer, fingerprintLeaves}
+use Rattle.steering.specs.Numbers.{AreBytes}
+use Rattle.steering.specs.Parsing.{AllFit, Parsed, accepted, parse, refused, tableOf}
+use Rattle.steering.specs.Reading.{readAt}
+use Rattle.steering.specs.Records.{Fits, bodyLength, bodyOf, kindOf}
+use Rattle.steering.specs.declared.reading.Reading.the-variants.{Found}
+use Rattle.steering.specs.declared.records.Record.{Record}
+use Rattle.steering.proofs.Laws.Fingerprint as fingerprints
+use Rattle.steering.proofs.Laws.Outcomes as outcomes
+
+-- a table is accepted exactly where it is the bytes of its records in order, whose numbers fit their fields, at most 4,096 of them
+pub accepted-exactly : (t : List ℕ) (rs : List Record) → AreBytes t → (parse t ≡ accepted rs) ↔ ((t ≡ tableOf rs) × AllFit rs × (length t ≤ 4096))
+accepted-exactly t rs b = outcomes.accepted-exactly t b rs
+
+pub refused-by-8-exactly : (t : List ℕ) → AreBytes t → (parse t ≡ refused 8 0) ↔ (4096 < length t)
+refused-by-8-exactly = outcomes.refused-8-exactly
+
+-- the bytes of some records, `place` of them, and then a byte that is no kind
+pub refused-by-9-exactly : (t : List ℕ) (place : ℕ)
+    → AreBytes t
+    → (parse t ≡ refused 9 place)
+    ↔ ((rs : List Record)
+    × (kind : ℕ)
+    × (rest : List ℕ)
+    × AllFit rs
+    × (t ≡ tableOf rs ++ (kind ∷ rest))
+    × (place ≡ length (tableOf rs))
+    × (bodyLength kind ≡ 0)
+    × (length t ≤ 4096))
+refused-by-9-exactly t place b = outcomes.refused-9-exactly t b place
+
+-- the bytes of some records, `place` of them, and then a kind whose body is cut short
+pub refused-by-10-exactly : (t : List ℕ) (place : ℕ)
+    → AreBytes t
+    → (parse t ≡ refused 10 place)
+    ↔ ((rs : List Record)
+    × (kind : ℕ)
+    × (rest : List ℕ)
+    × AllFit rs
+    × (t ≡ tableOf rs ++ (kind ∷ rest))
+    × (place ≡ length (tableOf rs))
+    × ((0 < bodyLength kind) × (length rest < bodyLength kind))
+    × (length t ≤ 4096))
+refused-by-10-exactly t place b = outcomes.refused-10-exactly t b place
+
+pub there-is-no-other-refusal : (t : List ℕ) (number place : ℕ)
+    → AreBytes t
+    → parse t ≡ refused number place
+    → ((number ≡ 8) × (place ≡ 0)) ⊎ ((number ≡ 9) ⊎ (number ≡ 10))
+there-is-no-other-refusal t number place b = outcomes.refused-by t b number place
+
+-- the record that was found has the kind byte and the body that stand there, and its numbers fit their fields
+pub a-record-is-what-stands-there : (t : List ℕ) (place next : ℕ) (r : Record)
+    → AreBytes t
+    → Found r next ≡ readAt t place
+    → (kindOf r ≡ getD t place 0) × (bodyOf r ≡ take (next - (place + 1)) (drop (place + 1) t)) × Fits r
+a-record-is-what-stands-there t place next r b e = outcomes.stands-there t b place next r e
+
+-- a refusal, whose number is k + 1, leaves the room
+pub a-refused-fingerprint-leaves-the-room : (k : ℕ) (salt room : List ℕ) (q : Parsed)
+    → fingerprintAnswer (length salt) (length room) q .refusal ≡ suc k
+    → fingerprintLeaves salt q room ≡ room
+a-refused-fingerprint-leaves-the-room k salt room q e = sym (fingerprints.left-alone salt room q (λ z. omega (arith, e, z)))

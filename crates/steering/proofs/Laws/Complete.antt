@@ -1,5 +1,5 @@
 -- Every list of records whose numbers fit their fields is what its table of at most 4096 bytes is read as. Assumes nothing.
-use mathlib.Core.Path.{_≡_, refl, sym, ap, _∙_, subst}
+use mathlib.Core.Path.{_≡_, refl, sym, ap, _∙_, subst, ap₂}
 use mathlib.Core.List.{List, [], _∷_, _++_, append-assoc}
 use Prim.Native.Nat.{ℕ, zero, suc, _+_, _%_, _^_, _<_, _≤_}
 use native.Mathlib.Nat.{mod-eq-of-lt, pow-succ'}
@@ -10,7 +10,7 @@ use lib.ListN.{drop, getD, length, length-append, take}
 use lib.Seq.{drop-at, drop-drop, getD-drop, take-all, take-at}
 use Rattle.steering.specs.Numbers.{bigEndian, bytesOf, numberAt}
 use Rattle.steering.specs.Parsing.{accepted, goOn, inFront, parse, parseFrom, tableOf}
-use Rattle.steering.specs.Reading.{readAt, recordAt}
+use Rattle.steering.specs.Reading.{readAt}
 use Rattle.steering.specs.Records.{bodyLength, bodyOf, floorKind, kindOf, recordOf}
 use Rattle.steering.specs.declared.reading.Reading.{Reading}
 use Rattle.steering.specs.declared.reading.Reading.the-variants.{Found}
@@ -19,7 +19,7 @@ use Rattle.steering.specs.declared.records.Radio.the-variants.{High, Low
 use Rattle.steering.specs.declared.records.Record.{Record}
 use Rattle.steering.specs.declared.records.Record.the-variants.{Floor, Hold, Node, Note}
 use Rattle.steering.proofs.Laws.Numbers.{power-pos}
-use Rattle.steering.proofs.Laws.Reading.{at-end, at-record, whole}
+use Rattle.steering.proofs.Laws.Reading.{at-end, whole}
 
 -- ---- from a number to bytes and back
 
@@ -152,11 +152,9 @@ module _ (p rest : List ℕ) (r : Record) where
 
   found-there : Fits r → length t ≤ 4096 → readAt t (length p) ≡ Found r (length p + 1 + length (bodyOf r))
   found-there f h =
-      at-record t (length p) (omega (arith, long)) h (λ e. omega (arith, long, e))
-      ∙ ap (recordAt t (length p)) kind-there
-      ∙ whole t (length p) (kindOf r) (length (bodyOf r)) (body-length r) (λ e. known r (sym (body-length r) ∙ e)) (omega (arith, long))
-      ∙ ap (λ (x : Record). Found x (length p + 1 + length (bodyOf r)))
-      (ap (recordOf (kindOf r)) (ap (take (length (bodyOf r))) past-kind ∙ take-at (bodyOf r) rest (length (bodyOf r)) refl) ∙ record-again r f)
+      let body : take (length (bodyOf r)) (drop (length p + 1) t) ≡ bodyOf r = ap (take (length (bodyOf r))) past-kind ∙ take-at (bodyOf r) rest (length (bodyOf r)) refl in
+      sym (whole t (length p) (omega (arith, long)) h (λ e. omega (arith, long, e)) (length (bodyOf r)) (body-length r ∙ ap bodyLength (sym kind-there))
+      (λ e. known r (sym (body-length r) ∙ e)) (length (bodyOf r)) r (sym (ap₂ recordOf kind-there body ∙ record-again r f)) refl (omega (arith, long)))
 
 -- ---- whole tables
 
@@ -169,7 +167,7 @@ complete-from : (n : ℕ) (p : List ℕ) (rs : List Record) → AllFit rs → le
 unfolding parseFrom t
 complete-from zero p rs f l h = absurd (omega arith)
 complete-from (suc n) p [] f l h =
-    ap (λ (x : Reading). goOn x (parseFrom n (p ++ []))) (at-end (p ++ []) (length p) (omega (arith, length-append p [])) h (omega (arith, length-append p [])))
+    ap (λ (x : Reading). goOn x (parseFrom n (p ++ []))) (sym (at-end (p ++ []) (length p) (omega (arith, length-append p [])) h (omega (arith, length-append p []))))
 complete-from (suc n) p (r ∷ rs) f l h =
     ap (λ (x : Reading). goOn x (parseFrom n (p ++ tableOf (r ∷ rs)))) (found-there p (tableOf rs) r (f .0) h)
     ∙ ap (inFront r) (next ∙ complete-from n q rs (f .1) (omega arith) (subst (λ (u : List ℕ). length u ≤ 4096) same h))

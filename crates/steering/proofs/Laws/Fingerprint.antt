@@ -179,22 +179,6 @@ module _ (salt t : List ℕ) (at : ℕ) (s : Session) (W : Walked salt t at s) w
 
 -- ---- the same of what the code has: what it read at a place, and the answer of the session
 
-module _ (t : List ℕ) (at : ℕ) (x : Reading) (r : Record) (next : ℕ) (f : x ≡ Found r next) (e : x ≡ readAt t at) where
-  step : (at + 1 ≤ next) × (next ≤ length t) × (length t ≤ 4096)
-  step = let H = found t at r next (sym f ∙ e) in omega arith
-
-  pub start-fits : at + 1 < 2 ^ 64
-  start-fits = let S = step in omega arith
-
-  pub start-before : at + 1 ≤ next
-  start-before = let S = step in omega arith
-
-  pub next-within : next ≤ length t
-  next-within = let S = step in omega arith
-
-  pub less-left : length t - next < length t - at
-  less-left = let S = step in omega arith
-
 module _ (salt t : List ℕ) (at : ℕ) (s : Session) (W : Walked salt t at s) (x : Reading) (e : x ≡ readAt t at) where
   module _ (r : Record) (next : ℕ) (f : x ≡ Found r next) (answer : Answer) (a : answer ≡ addAnswer s (take (next - (at + 1)) (drop (at + 1) t))) where
     pub goes-on : Walked salt t next (answer .session)
@@ -217,7 +201,7 @@ accepted-fits t z = by (ltb 4096 (length t)) refl
   where
     by : (x : Bool) → ltb 4096 (length t) ≡ x → length t ≤ 4096
     by true q =
-        let e : refusalOf (goOn (readAt t 0) (parseFrom (length t) t)) ≡ 8 = ap (λ (x : Reading). refusalOf (goOn x (parseFrom (length t) t))) (too-long t 0 (omega arith) (ltb-true 4096 (length t) q)) in
+        let e : refusalOf (goOn (readAt t 0) (parseFrom (length t) t)) ≡ 8 = ap (λ (x : Reading). refusalOf (goOn x (parseFrom (length t) t))) (sym (too-long t 0 (omega arith) (ltb-true 4096 (length t) q))) in
         let w : _≡_ {A = ℕ} 8 0 = sym e ∙ z in
         absurd (omega arith)
     by false q = ltb-false 4096 (length t) q

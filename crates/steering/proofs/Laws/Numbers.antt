@@ -7,6 +7,8 @@ use native.Mathlib.Numerals.{add-one}
 use native.Mathlib.Omega.{arith}
 use lib.ListN.{drop, getD, length, length-append, length-drop, take}
 use lib.Pow.{pow-add}
+use mir.Syntax.{w8}
+use mir.Val.{Fits}
 use lib.Seq.{drop-cons, drop-drop, getD-drop, length-take-le, take-add}
 use Rattle.steering.specs.Numbers.{AreBytes, bigEndian, bytesOf, numberAt}
 
@@ -24,17 +26,30 @@ module _ (at : ℕ) (l : List ℕ) where
       let b : suc at < length l = omega arith in
       rw (add-one at, drop-cons l at 0 a, drop-cons l (suc at) 0 b) (omega arith)
 
-  -- a number is read in two parts
-  pub joined : (m n : ℕ) → at + (m + n) ≤ length l → numberAt m at l * 256 ^ n + numberAt n (at + m) l ≡ numberAt (m + n) at l
-  joined m n h =
-      let s : length (take n (drop (at + m) l)) ≡ n = length-take-le n (drop (at + m) l) (omega (arith, length-drop (at + m) l)) in
-      sym (ap bigEndian (take-add m n (drop at l) ∙ ap (λ (d : List ℕ). take m (drop at l) ++ take n d) (drop-drop m at l))
-      ∙ big-append (take m (drop at l)) (take n (drop (at + m) l))
-      ∙ ap (λ (k : ℕ). numberAt m at l * 256 ^ k + numberAt n (at + m) l) s)
-
   -- two parts that follow each other
   pub parts : (m n : ℕ) → take m (drop at l) ++ take n (drop (at + m) l) ≡ take (m + n) (drop at l)
   parts m n = ap (λ (d : List ℕ). take m (drop at l) ++ take n d) (sym (drop-drop m at l)) ∙ sym (take-add m n (drop at l))
+
+-- two bytes make a number below 2^16
+module _ (x : ℕ) (fits : Fits w8 x) where
+  pub byte-fits : x < 2 ^ 16
+  byte-fits = omega (arith, fits .fits)
+
+  pub high-fits : x * 256 < 2 ^ 16
+  high-fits = omega (arith, fits .fits)
+
+  pub both-fit : (y : ℕ) → Fits w8 y → x * 256 + y < 2 ^ 16
+  both-fit y low = omega (arith, fits .fits, low .fits)
+
+-- a number is read in two parts, of m bytes and of n
+pub joined : (m n at : ℕ) (l : List ℕ) (high low : ℕ) → high ≡ numberAt m at l → low ≡ numberAt n (at + m) l → at + (m + n) ≤ length l
+    → high * 256 ^ n + low ≡ numberAt (m + n) at l
+joined m n at l high low p q h =
+    let s : length (take n (drop (at + m) l)) ≡ n = length-take-le n (drop (at + m) l) (omega (arith, length-drop (at + m) l)) in
+    ap₂ (λ (x y : ℕ). x * 256 ^ n + y) p q
+    ∙ sym (ap bigEndian (take-add m n (drop at l) ∙ ap (λ (d : List ℕ). take m (drop at l) ++ take n d) (drop-drop m at l))
+    ∙ big-append (take m (drop at l)) (take n (drop (at + m) l))
+    ∙ ap (λ (k : ℕ). numberAt m at l * 256 ^ k + numberAt n (at + m) l) s)
 
 -- ---- parts of a list of bytes
 

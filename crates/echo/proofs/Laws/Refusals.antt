@@ -119,7 +119,7 @@ pub done : {A : Type 0} (n : ℕ) (a b : A) → n ≡ 0 → unless n a b ≡ a
 done n a b e = ap (λ (k : ℕ). unless k a b) e
 
 -- sizes that fit, and what compression needs of them
-pub sizes-fit : (c b : ℕ) → sizesFit c b ≡ true → ((c ≡ 64) × (b ≡ 192)) ⊎ ((c ≡ 128) × (b ≡ 128))
+sizes-fit : (c b : ℕ) → sizesFit c b ≡ true → ((c ≡ 64) × (b ≡ 192)) ⊎ ((c ≡ 128) × (b ≡ 128))
 sizes-fit c b e = short (eqb c 64) (eqb b 192) (eqb c 128) (eqb b 128) refl refl refl refl e
   where
     long : (p q : Bool) → eqb c 128 ≡ p → eqb b 128 ≡ q → (p && q) ≡ true → ((c ≡ 64) × (b ≡ 192)) ⊎ ((c ≡ 128) × (b ≡ 128))
@@ -132,14 +132,14 @@ sizes-fit c b e = short (eqb c 64) (eqb b 192) (eqb c 128) (eqb b 128) refl refl
     short true false r s p q u v e = long r s u v e
     short false q′ r s p q u v e = long r s u v e
 
-pub record CompressFit (chaining block counter salt : ℕ) : Type 0 where
-  pub salt-fits : salt ≡ 16
-  pub some : 0 < chaining
-  pub square-fits : chaining + block ≡ 256
-  pub parts-fit : 256 ≡ chaining * (256 / chaining)
-  pub counters-fit : counter + 16 * roundCount chaining ≤ 2 ^ 64
+record CompressFit (chaining block counter salt : ℕ) : Type 0 where
+  salt-fits : salt ≡ 16
+  some : 0 < chaining
+  square-fits : chaining + block ≡ 256
+  parts-fit : 256 ≡ chaining * (256 / chaining)
+  counters-fit : counter + 16 * roundCount chaining ≤ 2 ^ 64
 
-pub compress-fit : (chaining block counter salt : ℕ) → compressRefusal chaining block counter salt ≡ 0 → CompressFit chaining block counter salt
+compress-fit : (chaining block counter salt : ℕ) → compressRefusal chaining block counter salt ≡ 0 → CompressFit chaining block counter salt
 unfolding compressRefusal
 compress-fit chaining block counter salt e =
     let high = ltb (2 ^ 64 - 161) counter in

@@ -6,7 +6,7 @@ use mathlib.Core.List.{List, _++_}
 use Prim.Native.Nat.{ℕ, _+_, _-_, _/_, _%_, _<_, _≤_}
 use native.Mathlib.Nat.{zero-add}
 use native.Mathlib.Omega.{arith}
-use borrow.Author.Tests.{eq-eqb, eqb-true, le-leb, le-ltb, leb-true, lt-leb, lt-ltb, ne-eqb, not-false, not-true}
+use borrow.Author.Tests.{eq-eqb, le-leb, le-ltb, leb-true, lt-leb, lt-ltb, ne-eqb, not-false, not-true}
 use lib.Dec.{leb}
 use lib.ListN.{drop, getD, length, length-append, length-drop, replicate, take, take-append-drop}
 use lib.Seq.{getD-drop, length-take-le, take-append-le}
@@ -55,9 +55,7 @@ both true b e = (refl, e)
 both false b e = absurd (true≢false (sym e))
 
 record SessionFits (s : Session) : Type 0 where
-  bits-least : 128 ≤ s .bits
   bits-most : s .bits ≤ 512
-  bits-whole : s .bits % 8 ≡ 0
   taken-most : s .taken ≤ limit
   rest-zero : allZero (drop (s .taken % blockSize (s .bits)) (s .waiting)) ≡ true
 
@@ -70,9 +68,7 @@ session-fits s e =
     let t = both (leb (s .taken) limit) _ (p .1) in
     let u = both (allZero (drop (s .taken % blockSize (s .bits)) (s .waiting))) _ (t .1) in
     record {
-      bits-least = leb-true 128 (s .bits) (q .0);
       bits-most = leb-true (s .bits) 512 (r .0);
-      bits-whole = eqb-true (s .bits % 8) 0 (r .1);
       taken-most = leb-true (s .taken) limit (t .0);
       rest-zero = u .0;
     }

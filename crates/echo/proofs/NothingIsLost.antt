@@ -22,7 +22,8 @@ module _ (n start : ℕ) (salt : List ℕ) (L : Bytes 16 salt) where
   keys number = key-bytes (start + number)
 
   -- squares that go to one square are one
-  pub different-squares-go-to-different-squares : (s t : List ℕ) → Bytes 256 s → Bytes 256 t → rounds n (keysFrom start) salt s ≡ rounds n (keysFrom start) salt t → s ≡ t
+  pub different-squares-go-to-different-squares : (s t : List ℕ) → Bytes 256 s → Bytes 256 t
+      → rounds n (keysFrom start) salt s ≡ rounds n (keysFrom start) salt t → s ≡ t
   different-squares-go-to-different-squares s t S T e =
       sym (rounds-undone (keysFrom start) salt keys L n s S) ∙ ap (roundsBack n (keysFrom start) salt) e ∙ rounds-undone (keysFrom start) salt keys L n t T
 
@@ -39,7 +40,8 @@ module _ (n start : ℕ) (salt : List ℕ) (L : Bytes 16 salt) where
 -- the routines themselves, for every square and salt of bytes, count and counter: where nothing is refused each undoes the other, and a
 -- refusal changes nothing
 pub the-routines-undo-each-other : (square : List ℕ) (count counter : ℕ) (salt : List ℕ) → Bytes (length square) square → Bytes (length salt) salt
-    → (roundsBackLeave (roundsLeave square count counter salt) count counter salt ≡ square) × (roundsLeave (roundsBackLeave square count counter salt) count counter salt ≡ square)
+    → (roundsBackLeave (roundsLeave square count counter salt) count counter salt ≡ square)
+    × (roundsLeave (roundsBackLeave square count counter salt) count counter salt ≡ square)
 the-routines-undo-each-other = undo-each-other
 
 pub row-shift-of-xor : (s t : List ℕ) → bigShiftRows (xorBytes 256 s t) ≡ xorBytes 256 (bigShiftRows s) (bigShiftRows t)

@@ -12,7 +12,8 @@ use lib.Dec.{ltb}
 use lib.ListN.{drop, length, length-append}
 use Rattle.echo.specs.declared.session.Session.{Session}
 use Rattle.echo.specs.Digest.{digestOf}
-use Rattle.echo.specs.Session.{addAnswer, addBytes, addRefusal, admitted, digestLeaves, digestRefusal, isSession, limit, openAnswer, openRefusal, opened, readAnswer, readLeaves}
+use Rattle.echo.specs.Session.{addAnswer, addBytes, addRefusal, admitted, digestLeaves, digestRefusal, isSession}
+use Rattle.echo.specs.Session.{limit, openAnswer, openRefusal, opened, readAnswer, readLeaves}
 use Rattle.echo.proofs.Laws.AtOnce.{well-read}
 use Rattle.echo.proofs.Laws.Opened.{add-nothing, add-pieces, opened-is-session, opened-state, stateOf}
 
@@ -41,7 +42,8 @@ an-empty-piece-changes-nothing s = by (addRefusal s 0) refl
 
 module _ (h : ℕ) (salt : List ℕ) (a : admitted h ≡ true) (l : length salt ≡ 16) where
   -- a piece is joined to the end of the bytes added
-  pub a-piece-is-joined : (m piece : List ℕ) → length (m ++ piece) ≤ limit → addAnswer (addBytes (opened h salt) m) piece .session ≡ addBytes (opened h salt) (m ++ piece)
+  pub a-piece-is-joined : (m piece : List ℕ) → length (m ++ piece) ≤ limit
+      → addAnswer (addBytes (opened h salt) m) piece .session ≡ addBytes (opened h salt) (m ++ piece)
   unfolding addAnswer addRefusal stateOf
   a-piece-is-joined m piece fits = rw (is, no) (add-pieces (opened h salt) m piece)
     where
@@ -61,11 +63,13 @@ module _ (h : ℕ) (salt : List ℕ) (a : admitted h ≡ true) (l : length salt 
   unfolding openAnswer openRefusal
   an-opening-opens = rw (a, eq-eqb (length salt) 16 l) refl
 
-  all-joined : (m : List ℕ) (pieces : List (List ℕ)) → length (m ++ joined pieces) ≤ limit → addAll (addBytes (opened h salt) m) pieces ≡ addBytes (opened h salt) (m ++ joined pieces)
+  all-joined : (m : List ℕ) (pieces : List (List ℕ)) → length (m ++ joined pieces) ≤ limit
+      → addAll (addBytes (opened h salt) m) pieces ≡ addBytes (opened h salt) (m ++ joined pieces)
   unfolding joined addAll
   all-joined m [] fits = ap (addBytes (opened h salt)) (sym (append-nil m))
   all-joined m (piece ∷ pieces) fits =
-      ap (λ (s : Session). addAll s pieces) (a-piece-is-joined m piece (omega (arith, fits, length-append m (piece ++ joined pieces), length-append piece (joined pieces), length-append m piece)))
+      ap (λ (s : Session). addAll s pieces)
+      (a-piece-is-joined m piece (omega (arith, fits, length-append m (piece ++ joined pieces), length-append piece (joined pieces), length-append m piece)))
       ∙ all-joined (m ++ piece) pieces (rw (append-assoc m piece (joined pieces)) fits)
       ∙ ap (addBytes (opened h salt)) (append-assoc m piece (joined pieces))
 
@@ -80,7 +84,8 @@ module _ (h : ℕ) (salt : List ℕ) (a : admitted h ≡ true) (l : length salt 
     pub read-is-at-once : (room : List ℕ) → readLeaves (addAll (openAnswer h salt .session) pieces) room ≡ digestLeaves h salt (joined pieces) room
     read-is-at-once room = well-read h salt (joined pieces) room a l fits _ pieces-are-one .1
 
-    pub at-once-is-the-digest : (room : List ℕ) → h / 8 ≤ length room → digestLeaves h salt (joined pieces) room ≡ digestOf h salt (joined pieces) ++ drop (h / 8) room
+    pub at-once-is-the-digest : (room : List ℕ) → h / 8 ≤ length room
+        → digestLeaves h salt (joined pieces) room ≡ digestOf h salt (joined pieces) ++ drop (h / 8) room
     unfolding digestLeaves digestRefusal
     at-once-is-the-digest room r = rw (a, eq-eqb (length salt) 16 l, le-ltb limit (length (joined pieces)) fits, le-ltb (length room) (h / 8) r) refl
 

@@ -11,11 +11,13 @@ use Rattle.aes_round.specs.Bytes.{Bytes, tab, xorBytes}
 use Rattle.aes_round.specs.Array.{array, column, entry}
 use Rattle.aes_round.specs.Mixing.{backward, forward, mixColumn}
 use Rattle.aes_round.specs.Substitution.{Table, subByte, subByteBack}
-use Rattle.aes_round.specs.Rounds.{addRoundKey, aesRound, aesRoundBack, mixColumns, shiftBackFrom, shiftFrom, shiftRows, shiftRowsBack, subBytes, subBytesBack}
+use Rattle.aes_round.specs.Rounds.{addRoundKey, aesRound, aesRoundBack, mixColumns, shiftBackFrom}
+use Rattle.aes_round.specs.Rounds.{shiftFrom, shiftRows, shiftRowsBack, subBytes, subBytesBack}
 use Rattle.aes_round.proofs.Laws.Every.{agree}
 use Rattle.aes_round.proofs.Laws.Bytes.{getD-tab, is-tab, length-tab, tab-bytes, tab-ext}
 use Rattle.aes_round.proofs.Laws.Xor.{getD-xor, length-xor, xor-bytes, xor-bytes-twice}
-use Rattle.aes_round.proofs.Laws.Array.{array-bytes, array-ext, column-bytes, column-xor, entry-array, entry-byte, entry-xor, getD-column, is-array, length-array, xor-array}
+use Rattle.aes_round.proofs.Laws.Array.{array-bytes, array-ext, column-bytes, column-xor, entry-array, entry-byte}
+use Rattle.aes_round.proofs.Laws.Array.{entry-xor, getD-column, is-array, length-array, xor-array}
 use Rattle.aes_round.proofs.Laws.Substitution.{sub-back-lt, sub-back-undone, sub-lt, sub-undone, table-at}
 use Rattle.aes_round.proofs.Laws.Mixing.{backward-bytes, forward-bytes, length-mix, mix-back-undone, mix-bytes, mix-undone, mix-xor}
 
@@ -129,7 +131,8 @@ module _ (w : ℕ) where
   unfolding column
   column-mix m s c b hc hb =
       sym (is-tab 4 (mixColumn m (column w s c b)) _ (length-mix m _)
-      (λ i hi. sym (entry-mix m s (4 * c + i) b (omega arith) hb ∙ ap₂ (λ (q r : ℕ). getD (mixColumn m (column w s q b)) r 0) (quotient c i hi) (remainder c i hi))))
+      (λ i hi. sym
+      (entry-mix m s (4 * c + i) b (omega arith) hb ∙ ap₂ (λ (q r : ℕ). getD (mixColumn m (column w s q b)) r 0) (quotient c i hi) (remainder c i hi))))
     where
       quotient : (c i : ℕ) → i < 4 → (4 * c + i) / 4 ≡ c
       quotient c i h = omega arith
@@ -137,7 +140,8 @@ module _ (w : ℕ) where
       remainder : (c i : ℕ) → i < 4 → (4 * c + i) % 4 ≡ i
       remainder c i h = omega arith
 
-  mix-columns-back : (N M : List ℕ) → ((c : List ℕ) → Bytes 4 c → mixColumn N (mixColumn M c) ≡ c) → (s : List ℕ) → Bytes (16 * w) s → mixColumns w N (mixColumns w M s) ≡ s
+  mix-columns-back : (N M : List ℕ) → ((c : List ℕ) → Bytes 4 c → mixColumn N (mixColumn M c) ≡ c) → (s : List ℕ) → Bytes (16 * w) s
+      → mixColumns w N (mixColumns w M s) ≡ s
   unfolding mixColumns
   mix-columns-back N M undo s B =
       sym (is-array w s _ (B .long)

@@ -11,7 +11,8 @@ use lib.ListN.{length}
 use Rattle.echo.specs.declared.session.Session.{Session}
 use Rattle.echo.specs.Digest.{digestOf}
 use Rattle.echo.specs.Families.{either}
-use Rattle.echo.specs.Session.{addAnswer, addBytes, addRefusal, admitted, digestLeaves, digestRefusal, isSession, limit, openAnswer, openRefusal, opened, readAnswer, readLeaves, readRefusal, sessionDigest}
+use Rattle.echo.specs.Session.{addAnswer, addBytes, addRefusal, admitted, digestLeaves, digestRefusal, isSession, limit}
+use Rattle.echo.specs.Session.{openAnswer, openRefusal, opened, readAnswer, readLeaves, readRefusal, sessionDigest}
 use Rattle.echo.proofs.Laws.Opened.{add-nothing, opened-digest, opened-is-session, opened-state, stateOf}
 
 module _ (h : ℕ) (salt message room : List ℕ) where
@@ -32,7 +33,8 @@ module _ (h : ℕ) (salt message room : List ℕ) where
   unfolding openAnswer openRefusal
   well-opened z = by (admitted h) (eqb (length salt) 16) refl refl z
     where
-      by : (a s : Bool) → admitted h ≡ a → eqb (length salt) 16 ≡ s → openAnswer h salt .refusal ≡ 0 → (admitted h ≡ true) × (length salt ≡ 16) × (openAnswer h salt .session ≡ opened h salt)
+      by : (a s : Bool) → admitted h ≡ a → eqb (length salt) 16 ≡ s → openAnswer h salt .refusal ≡ 0
+          → (admitted h ≡ true) × (length salt ≡ 16) × (openAnswer h salt .session ≡ opened h salt)
       by false s p q z = let e : _≡_ {A = ℕ} 1 0 = rw p at z in absurd (omega arith)
       by true false p q z = let e : _≡_ {A = ℕ} 2 0 = rw (p, q) at z in absurd (omega arith)
       by true true p q z = (p, eqb-true (length salt) 16 q, rw (p, q) refl)
@@ -50,26 +52,31 @@ module _ (h : ℕ) (salt message room : List ℕ) where
         by false q = rw (is, zero-add (length message), q) refl
 
     pub not-added : (addAnswer (opened h salt) message .refusal ≡ 0 → ⊥)
-        → (addAnswer (opened h salt) message .refusal ≡ digestRefusal h (length salt) (length message) (length room)) × (room ≡ digestLeaves h salt message room)
+        → (addAnswer (opened h salt) message .refusal ≡ digestRefusal h (length salt) (length message) (length room))
+        × (room ≡ digestLeaves h salt message room)
     unfolding digestRefusal digestLeaves
     not-added n = by (ltb limit (length message)) refl
       where
         by : (t : Bool) → ltb limit (length message) ≡ t
-            → (addAnswer (opened h salt) message .refusal ≡ digestRefusal h (length salt) (length message) (length room)) × (room ≡ digestLeaves h salt message room)
+            → (addAnswer (opened h salt) message .refusal ≡ digestRefusal h (length salt) (length message) (length room))
+            × (room ≡ digestLeaves h salt message room)
         by true q = (add-is ∙ rw (q, a, eq-eqb (length salt) 16 l) refl, rw (q, a, eq-eqb (length salt) 16 l) refl)
         by false q = absurd (n (add-is ∙ rw q refl))
 
-    pub well-added : addAnswer (opened h salt) message .refusal ≡ 0 → (length message ≤ limit) × (addAnswer (opened h salt) message .session ≡ addBytes (opened h salt) message)
+    pub well-added : addAnswer (opened h salt) message .refusal ≡ 0
+        → (length message ≤ limit) × (addAnswer (opened h salt) message .session ≡ addBytes (opened h salt) message)
     unfolding addAnswer addRefusal
     well-added z = by (ltb limit (length message)) refl z
       where
-        by : (t : Bool) → ltb limit (length message) ≡ t → addAnswer (opened h salt) message .refusal ≡ 0 → (length message ≤ limit) × (addAnswer (opened h salt) message .session ≡ addBytes (opened h salt) message)
+        by : (t : Bool) → ltb limit (length message) ≡ t → addAnswer (opened h salt) message .refusal ≡ 0
+            → (length message ≤ limit) × (addAnswer (opened h salt) message .session ≡ addBytes (opened h salt) message)
         by true q z = let e : _≡_ {A = ℕ} 4 0 = sym (add-is ∙ rw q refl) ∙ z in absurd (omega arith)
         by false q z = (ltb-false limit (length message) q, rw (is, zero-add (length message), q) refl)
 
     -- reading the whole message's session
     pub well-read : length message ≤ limit → (s : Session) → s ≡ addBytes (opened h salt) message
-        → (readAnswer s (length room) .refusal ≡ digestRefusal h (length salt) (length message) (length room)) × (readLeaves s room ≡ digestLeaves h salt message room)
+        → (readAnswer s (length room) .refusal ≡ digestRefusal h (length salt) (length message) (length room))
+        × (readLeaves s room ≡ digestLeaves h salt message room)
     unfolding readAnswer readLeaves readRefusal digestRefusal digestLeaves stateOf
     well-read m s e = by (ltb (length room) (h / 8)) refl
       where
@@ -83,8 +90,15 @@ module _ (h : ℕ) (salt message room : List ℕ) where
         digests = ap sessionDigest e ∙ opened-digest h salt message
 
         by : (t : Bool) → ltb (length room) (h / 8) ≡ t
-            → (readAnswer s (length room) .refusal ≡ digestRefusal h (length salt) (length message) (length room)) × (readLeaves s room ≡ digestLeaves h salt message room)
-        by true q =
-            (simp (yes, bits, q, a, eq-eqb (length salt) 16 l, le-ltb limit (length message) m), simp (yes, bits, q, a, eq-eqb (length salt) 16 l, le-ltb limit (length message) m))
-        by false q =
-            (simp (yes, bits, q, a, eq-eqb (length salt) 16 l, le-ltb limit (length message) m), simp (yes, bits, q, a, eq-eqb (length salt) 16 l, le-ltb limit (length message) m, digests))
+            → (readAnswer s (length room) .refusal ≡ digestRefusal h (length salt) (length message) (length room))
+            × (readLeaves s room ≡ digestLeaves h salt message room)
+        by true q = (
+          simp (yes, bits, q, a, eq-eqb (length salt) 16 l, le-ltb limit (length message) m),
+          simp
+              (yes, bits, q, a, eq-eqb (length salt) 16 l, le-ltb limit (length message) m),
+        )
+        by false q = (
+          simp (yes, bits, q, a, eq-eqb (length salt) 16 l, le-ltb limit (length message) m),
+          simp
+              (yes, bits, q, a, eq-eqb (length salt) 16 l, le-ltb limit (length message) m, digests),
+        )

@@ -19,11 +19,13 @@ use Rattle.echo.specs.Square.{keysFrom}
 use Rattle.echo.proofs.Laws.Families.{block-pos, sizes}
 use Rattle.echo.proofs.Laws.Sessions.{is-clear}
 use Rattle.echo.proofs.Laws.Waiting.{put-full, put-more}
-use Rattle.echo.proofs.Laws.Stream.{block-rest, block-stays, blocks-left, count-full, count-more, counter-full, counter-full-block, iterate-ext, iterate-on, length-iterate, length-rest, length-snoc, nothing-waits, stored-full, stored-more}
+use Rattle.echo.proofs.Laws.Stream.{block-rest, block-stays, blocks-left, count-full, count-more, counter-full, counter-full-block, iterate-ext}
+use Rattle.echo.proofs.Laws.Stream.{iterate-on, length-iterate, length-rest, length-snoc, nothing-waits, stored-full, stored-more}
 
 -- the chaining variable after t full blocks of a message
 unfoldable pub chained : ℕ → List ℕ → List ℕ → ℕ → List ℕ
-chained h salt m = iterate (chainingSize h) (roundCount (chainingSize h)) salt (initial (chainingSize h) h) (block (blockSize h) m) (λ i. 8 * (blockSize h * i + blockSize h))
+chained h salt m =
+    iterate (chainingSize h) (roundCount (chainingSize h)) salt (initial (chainingSize h) h) (block (blockSize h) m) (λ i. 8 * (blockSize h * i + blockSize h))
 
 -- the session of an opening to which the bytes of a message were added, by the paper's blocks
 unfoldable pub stateOf : ℕ → List ℕ → List ℕ → Session
@@ -112,7 +114,8 @@ module _ (h : ℕ) (salt : List ℕ) where
       more e =
           let l : length xs % blockSize h + 1 < blockSize h = omega arith in
           sym (put-more h (length xs) (length xs % blockSize h) (blockSize h) refl refl l x salt _ _)
-          ∙ made-eq (ap (λ (v : List ℕ). v ++ replicate (128 - chainingSize h) 0) (chained-more xs x l)) (sym (length-snoc xs x)) (stored-more (blockSize h) (block-pos h) xs x l 192 block-fits)
+          ∙ made-eq (ap (λ (v : List ℕ). v ++ replicate (128 - chainingSize h) 0) (chained-more xs x l)) (sym (length-snoc xs x))
+          (stored-more (blockSize h) (block-pos h) xs x l 192 block-fits)
 
   pub add-state : (xs ys : List ℕ) → addBytes (stateOf h salt xs) ys ≡ stateOf h salt (xs ++ ys)
   unfolding addBytes
@@ -131,9 +134,11 @@ module _ (h : ℕ) (salt : List ℕ) where
 
   -- the blocks of a padded message: the full ones of the message, and those that are left
   padded : (m p : List ℕ)
-      → iterate (chainingSize h) (roundCount (chainingSize h)) salt (initial (chainingSize h) h) (block (blockSize h) (m ++ p)) (counterAt (blockSize h) (length m))
+      → iterate (chainingSize h) (roundCount (chainingSize h)) salt (initial (chainingSize h) h) (block (blockSize h) (m ++ p))
+      (counterAt (blockSize h) (length m))
       (blockCount (blockSize h) (length m))
-      ≡ iterate (chainingSize h) (roundCount (chainingSize h)) salt (chained h salt m (length m / blockSize h)) (block (blockSize h) (drop (blockSize h * (length m / blockSize h)) m ++ p))
+      ≡ iterate (chainingSize h) (roundCount (chainingSize h)) salt (chained h salt m (length m / blockSize h))
+      (block (blockSize h) (drop (blockSize h * (length m / blockSize h)) m ++ p))
       (λ i. counterAt (blockSize h) (length m) (length m / blockSize h + i))
       (blockCount (blockSize h) (length m) - length m / blockSize h)
   unfolding chained

@@ -33,13 +33,15 @@ module _ (h : ℕ) (salt : List ℕ) where
         sym (open-0 h salt true (sym a) refl l salt _ (sym (sixteen-are salt l)) refl)
         ∙ ap (λ (s : Session). record { refusal = 0; session = s }) (sym (add-nothing (opened h salt)) ∙ opened-state h salt [])
 
-    pub takes : (m piece : List ℕ) → length m + length piece ≤ limit → _≡_ {A = Answer} (addAnswer (stateOf h salt m) piece) (record { refusal = 0; session = stateOf h salt (m ++ piece) })
+    pub takes : (m piece : List ℕ) → length m + length piece ≤ limit
+        → _≡_ {A = Answer} (addAnswer (stateOf h salt m) piece) (record { refusal = 0; session = stateOf h salt (m ++ piece) })
     takes m piece n =
         sym (added (stateOf h salt m) piece true (sym (state-is-session h salt m a (omega arith))) refl (stateOf h salt (m ++ piece))
         (sym (add-state h salt m piece)) (omega (arith, state-taken m)))
 
     pub reads : (m room : List ℕ) → length m ≤ limit → h / 8 ≤ length room
-        → (_≡_ {A = Answer} (readAnswer (stateOf h salt m) (length room)) (record { refusal = 0; session = stateOf h salt m })) × (readLeaves (stateOf h salt m) room ≡ digestOf h salt m ++ drop (h / 8) room)
+        → (_≡_ {A = Answer} (readAnswer (stateOf h salt m) (length room)) (record { refusal = 0; session = stateOf h salt m }))
+        × (readLeaves (stateOf h salt m) room ≡ digestOf h salt m ++ drop (h / 8) room)
     reads m room n l =
         let s = stateOf h salt m in
         let d : sessionDigest s ≡ digestOf h salt m = ap sessionDigest (sym (opened-state h salt m)) ∙ opened-digest h salt m in

@@ -71,7 +71,9 @@ module _ (a b c d : ℕ) where
   fourth : d < 256 ^ 8 → numberAt 8 24 (bytesOf 8 a ++ (bytesOf 8 b ++ (bytesOf 8 c ++ bytesOf 8 d))) ≡ d
   fourth h =
       ap (λ (l : List ℕ). bigEndian (take 8 l))
-      (sym (drop-drop 8 16 (bytesOf 8 a ++ (bytesOf 8 b ++ (bytesOf 8 c ++ bytesOf 8 d)))) ∙ ap (drop 8) (behind-two (bytesOf 8 c ++ bytesOf 8 d)) ∙ drop-at (bytesOf 8 c) _ 8 (length-bytes 8 c))
+      (sym (drop-drop 8 16 (bytesOf 8 a ++ (bytesOf 8 b ++ (bytesOf 8 c ++ bytesOf 8 d))))
+      ∙ ap (drop 8) (behind-two (bytesOf 8 c ++ bytesOf 8 d))
+      ∙ drop-at (bytesOf 8 c) _ 8 (length-bytes 8 c))
       ∙ alone 8 d h
 
 record-again : (r : Record) → Fits r → recordOf (kindOf r) (bodyOf r) ≡ r
@@ -84,7 +86,8 @@ record-again (Note n) h =
     let b = n .second in
     let c = n .third in
     let d = n .fourth in
-    ap (recordOf 5) (append-assoc (bytesOf 8 a ++ bytesOf 8 b) (bytesOf 8 c) (bytesOf 8 d) ∙ append-assoc (bytesOf 8 a) (bytesOf 8 b) (bytesOf 8 c ++ bytesOf 8 d))
+    ap (recordOf 5)
+    (append-assoc (bytesOf 8 a ++ bytesOf 8 b) (bytesOf 8 c) (bytesOf 8 d) ∙ append-assoc (bytesOf 8 a) (bytesOf 8 b) (bytesOf 8 c ++ bytesOf 8 d))
     ∙ rw (number-back 8 a (bytesOf 8 b ++ (bytesOf 8 c ++ bytesOf 8 d)) (h .0), second a b c d (h .1), third a b c d (h .2), fourth a b c d (h .3)) refl
 
 floor-length : (q : Radio) (x : ℕ) → length (bytesOf 2 x) ≡ bodyLength (floorKind q)
@@ -152,7 +155,8 @@ module _ (p rest : List ℕ) (r : Record) where
 
   found-there : Fits r → length t ≤ 4096 → readAt t (length p) ≡ Found r (length p + 1 + length (bodyOf r))
   found-there f h =
-      let body : take (length (bodyOf r)) (drop (length p + 1) t) ≡ bodyOf r = ap (take (length (bodyOf r))) past-kind ∙ take-at (bodyOf r) rest (length (bodyOf r)) refl in
+      let body : take (length (bodyOf r)) (drop (length p + 1) t) ≡ bodyOf r =
+      ap (take (length (bodyOf r))) past-kind ∙ take-at (bodyOf r) rest (length (bodyOf r)) refl in
       sym (whole t (length p) (omega (arith, long)) h (λ e. omega (arith, long, e)) (length (bodyOf r)) (body-length r ∙ ap bodyLength (sym kind-there))
       (λ e. known r (sym (body-length r) ∙ e)) (length (bodyOf r)) r (sym (ap₂ recordOf kind-there body ∙ record-again r f)) refl (omega (arith, long)))
 
@@ -163,11 +167,13 @@ abbrev pub AllFit : List Record → Type 0
 AllFit [] = Unit {0}
 AllFit (r ∷ rs) = Fits r × AllFit rs
 
-complete-from : (n : ℕ) (p : List ℕ) (rs : List Record) → AllFit rs → length rs < n → length (p ++ tableOf rs) ≤ 4096 → parseFrom n (p ++ tableOf rs) (length p) ≡ accepted rs
+complete-from : (n : ℕ) (p : List ℕ) (rs : List Record) → AllFit rs → length rs < n → length (p ++ tableOf rs) ≤ 4096
+    → parseFrom n (p ++ tableOf rs) (length p) ≡ accepted rs
 unfolding parseFrom t
 complete-from zero p rs f l h = absurd (omega arith)
 complete-from (suc n) p [] f l h =
-    ap (λ (x : Reading). goOn x (parseFrom n (p ++ []))) (sym (at-end (p ++ []) (length p) (omega (arith, length-append p [])) h (omega (arith, length-append p []))))
+    ap (λ (x : Reading). goOn x (parseFrom n (p ++ [])))
+    (sym (at-end (p ++ []) (length p) (omega (arith, length-append p [])) h (omega (arith, length-append p []))))
 complete-from (suc n) p (r ∷ rs) f l h =
     ap (λ (x : Reading). goOn x (parseFrom n (p ++ tableOf (r ∷ rs)))) (found-there p (tableOf rs) r (f .0) h)
     ∙ ap (inFront r) (next ∙ complete-from n q rs (f .1) (omega arith) (subst (λ (u : List ℕ). length u ≤ 4096) same h))

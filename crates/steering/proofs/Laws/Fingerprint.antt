@@ -121,7 +121,8 @@ module _ (salt t : List ℕ) (b : AreBytes t) where
       by (refused number place) p c z = absurd (omega arith)
 
 module _ (salt t : List ℕ) (at : ℕ) (s : Session) (W : Walked salt t at s) where
-  walk-next : (r : Record) (next : ℕ) → Found r next ≡ readAt t at → (answer : Answer) → answer ≡ addAnswer s (take (next - (at + 1)) (drop (at + 1) t)) → Stepped salt t next answer
+  walk-next : (r : Record) (next : ℕ) → Found r next ≡ readAt t at → (answer : Answer) → answer ≡ addAnswer s (take (next - (at + 1)) (drop (at + 1) t))
+      → Stepped salt t next answer
   walk-next r next e answer a = by (parseFrom (U .fuel) t next) refl (U .goes)
     where
       U : Unrolled t (Found r next) (W .rest)
@@ -136,7 +137,9 @@ module _ (salt t : List ℕ) (at : ℕ) (s : Session) (W : Walked salt t at s) w
       takes-it : _≡_ {A = Answer} answer (record { refusal = 0; session = stateOf 256 salt (W .done ++ piece) })
       takes-it =
           let H = found t at r next e in
-          a ∙ ap (λ (x : Session). addAnswer x piece) (W .state) ∙ takes 256 salt admitted-256 (W .done) piece (omega (arith, long, W .few, H .next-is, H .in-table, H .not-long))
+          a
+          ∙ ap (λ (x : Session). addAnswer x piece) (W .state)
+          ∙ takes 256 salt admitted-256 (W .done) piece (omega (arith, long, W .few, H .next-is, H .in-table, H .not-long))
 
       by : (y : Parsed) → parseFrom (U .fuel) t next ≡ y → inFront r y ≡ accepted (W .rest) → Stepped salt t next answer
       by (accepted more) f g =
@@ -202,7 +205,8 @@ accepted-fits t z = by (ltb 4096 (length t)) refl
   where
     by : (x : Bool) → ltb 4096 (length t) ≡ x → length t ≤ 4096
     by true q =
-        let e : refusalOf (goOn (readAt t 0) (parseFrom (length t) t)) ≡ 8 = ap (λ (x : Reading). refusalOf (goOn x (parseFrom (length t) t))) (sym (too-long t 0 (omega arith) (ltb-true 4096 (length t) q))) in
+        let e : refusalOf (goOn (readAt t 0) (parseFrom (length t) t)) ≡ 8 =
+        ap (λ (x : Reading). refusalOf (goOn x (parseFrom (length t) t))) (sym (too-long t 0 (omega arith) (ltb-true 4096 (length t) q))) in
         let w : _≡_ {A = ℕ} 8 0 = sym e ∙ z in
         absurd (omega arith)
     by false q = ltb-false 4096 (length t) q

@@ -2,7 +2,8 @@
 use mathlib.Core.Path.{_≡_, refl, sym, ap, ap₂, _∙_}
 use mathlib.Core.List.{List, [], _∷_, _++_}
 use Prim.Native.Nat.{ℕ, zero, suc, _+_, _*_, _/_, _%_, _^_, _<_, _≤_, _-_}
-use native.Mathlib.Nat.{add-assoc, add-mul, add-zero, div-eq-of-lt, mod-eq-of-lt, mul-add-div-right, mul-add-mod-self-right, mul-assoc, mul-le-mul-right, pow-succ', suc-mul, zero-add, zero-mul}
+use native.Mathlib.Nat.{add-assoc, add-mul, add-zero, div-eq-of-lt, mod-eq-of-lt, mul-add-div-right, mul-add-mod-self-right}
+use native.Mathlib.Nat.{mul-assoc, mul-le-mul-right, pow-succ', suc-mul, zero-add, zero-mul}
 use native.Mathlib.Numerals.{add-one}
 use native.Mathlib.Omega.{arith}
 use lib.ListN.{drop, getD, length, length-append, length-drop, take}
@@ -88,7 +89,8 @@ bytes-low (suc n) k q v = ap₂ (λ (x : ℕ) (xs : List ℕ). x ∷ xs) head (a
     shift = omega arith
 
     power : q * 256 ^ (k + suc n) ≡ q * 256 ^ k * 256 * 256 ^ n
-    power = rw (pow-add 256 k (suc n), pow-succ' 256 n, ← mul-assoc (256 ^ k) 256 (256 ^ n), ← mul-assoc q (256 ^ k * 256) (256 ^ n), ← mul-assoc q (256 ^ k) 256)
+    power =
+        rw (pow-add 256 k (suc n), pow-succ' 256 n, ← mul-assoc (256 ^ k) 256 (256 ^ n), ← mul-assoc q (256 ^ k * 256) (256 ^ n), ← mul-assoc q (256 ^ k) 256)
 
     head : (q * 256 ^ (k + suc n) + v) / 256 ^ n % 256 ≡ v / 256 ^ n % 256
     head =
@@ -101,11 +103,14 @@ unfolding bytesOf bigEndian
 bytes-back [] b = refl
 bytes-back (x ∷ xs) b =
     ap₂ (λ (y : ℕ) (ys : List ℕ). y ∷ ys) head
-    (ap (λ (j : ℕ). bytesOf (length xs) (x * 256 ^ j + bigEndian xs)) (sym (zero-add (length xs))) ∙ bytes-low (length xs) 0 x (bigEndian xs) ∙ bytes-back xs (λ j. b (suc j)))
+    (ap (λ (j : ℕ). bytesOf (length xs) (x * 256 ^ j + bigEndian xs)) (sym (zero-add (length xs)))
+    ∙ bytes-low (length xs) 0 x (bigEndian xs)
+    ∙ bytes-back xs (λ j. b (suc j)))
   where
     head : (x * 256 ^ length xs + bigEndian xs) / 256 ^ length xs % 256 ≡ x
     head =
-        ap (λ (y : ℕ). y % 256) (mul-add-div-right (power-pos (length xs)) x (bigEndian xs) ∙ ap (λ (y : ℕ). x + y) (div-eq-of-lt (below xs (λ j. b (suc j)))) ∙ add-zero x)
+        ap (λ (y : ℕ). y % 256)
+        (mul-add-div-right (power-pos (length xs)) x (bigEndian xs) ∙ ap (λ (y : ℕ). x + y) (div-eq-of-lt (below xs (λ j. b (suc j)))) ∙ add-zero x)
         ∙ mod-eq-of-lt (b zero)
 
 pub bytes-at : (n at : ℕ) (l : List ℕ) → at + n ≤ length l → AreBytes l → bytesOf n (numberAt n at l) ≡ take n (drop at l)

@@ -113,7 +113,8 @@ module _ (kind : ℕ) (body : List ℕ) (long : length body ≡ bodyLength kind)
       let l : length body ≡ 32 = long ∙ sym (long-5 kind k) in
       let e = sym (note-is kind body _ _ _ _ refl refl refl refl k) in
       let four : bodyOf (recordOf kind body) ≡ take 8 (drop 0 body) ++ take 8 (drop 8 body) ++ take 8 (drop 16 body) ++ take 8 (drop 24 body) =
-      ap bodyOf e ∙ rw (bytes-at 8 0 body (omega arith) b, bytes-at 8 8 body (omega arith) b, bytes-at 8 16 body (omega arith) b, bytes-at 8 24 body (omega arith) b) in
+      ap bodyOf e
+      ∙ rw (bytes-at 8 0 body (omega arith) b, bytes-at 8 8 body (omega arith) b, bytes-at 8 16 body (omega arith) b, bytes-at 8 24 body (omega arith) b) in
       let whole =
       ap (λ (l : List ℕ). l ++ take 8 (drop 16 body) ++ take 8 (drop 24 body)) (parts 0 body 8 8)
       ∙ ap (λ (l : List ℕ). l ++ take 8 (drop 24 body)) (parts 0 body 16 8)

@@ -9,17 +9,22 @@ use Rattle.bahmorist.proofs.bahmorist_rounds_back.Reads as bahmorist_ro
 use Rattle.bahmorist.proofs.bahmorist_compress.Reads as bahmorist_compress
 use Rattle.bahmorist.proofs.bahmorist_fingerprint.Reads as bahmorist_fingerprint
 
-pub bahmorist-digest-has-one-answer : (κs : _) (a : _) (r r′ : _) (s s′ : _) → bahmorist_digest.Post κs a r s → bahmorist_digest.Post κs a r′ s′ → (r ≡ r′) × (now (s .1 .1 .1 .0) ≡ now (s′ .1 .1 .1 .0))
+pub bahmorist-digest-has-one-answer : (κs : _) (a : _) (r r′ : _) (s s′ : _) → bahmorist_digest.Post κs a r s → bahmorist_digest.Post κs a r′ s′
+    → (r ≡ r′) × (now (s .1 .1 .1 .0) ≡ now (s′ .1 .1 .1 .0))
 bahmorist-digest-has-one-answer κs a r r′ s s′ p q = (p .0 ∙ sym (q .0), p .1 ∙ sym (q .1))
 
-pub bahmorist-rounds-has-one-answer : (κs : _) (a : _) (r r′ : _) (s s′ : _) → bahmorist_rounds.Post κs a r s → bahmorist_rounds.Post κs a r′ s′ → (r ≡ r′) × (now (s .0) ≡ now (s′ .0))
+pub bahmorist-rounds-has-one-answer : (κs : _) (a : _) (r r′ : _) (s s′ : _) → bahmorist_rounds.Post κs a r s → bahmorist_rounds.Post κs a r′ s′
+    → (r ≡ r′) × (now (s .0) ≡ now (s′ .0))
 bahmorist-rounds-has-one-answer κs a r r′ s s′ p q = (p .0 ∙ sym (q .0), p .1 ∙ sym (q .1))
 
-pub bahmorist-rounds-back-has-one-answer : (κs : _) (a : _) (r r′ : _) (s s′ : _) → bahmorist_rounds_back.Post κs a r s → bahmorist_rounds_back.Post κs a r′ s′ → (r ≡ r′) × (now (s .0) ≡ now (s′ .0))
+pub bahmorist-rounds-back-has-one-answer : (κs : _) (a : _) (r r′ : _) (s s′ : _) → bahmorist_rounds_back.Post κs a r s → bahmorist_rounds_back.Post κs a r′ s′
+    → (r ≡ r′) × (now (s .0) ≡ now (s′ .0))
 bahmorist-rounds-back-has-one-answer κs a r r′ s s′ p q = (p .0 ∙ sym (q .0), p .1 ∙ sym (q .1))
 
-pub bahmorist-compress-has-one-answer : (κs : _) (a : _) (r r′ : _) (s s′ : _) → bahmorist_compress.Post κs a r s → bahmorist_compress.Post κs a r′ s′ → (r ≡ r′) × (now (s .0) ≡ now (s′ .0))
+pub bahmorist-compress-has-one-answer : (κs : _) (a : _) (r r′ : _) (s s′ : _) → bahmorist_compress.Post κs a r s → bahmorist_compress.Post κs a r′ s′
+    → (r ≡ r′) × (now (s .0) ≡ now (s′ .0))
 bahmorist-compress-has-one-answer κs a r r′ s s′ p q = (p .0 ∙ sym (q .0), p .1 ∙ sym (q .1))
 
-pub bahmorist-fingerprint-has-one-answer : (κs : _) (a : _) (r r′ : _) (s s′ : _) → bahmorist_fingerprint.Post κs a r s → bahmorist_fingerprint.Post κs a r′ s′ → (r ≡ r′) × (now (s .1 .1 .0) ≡ now (s′ .1 .1 .0)) × (now (s .1 .1 .1 .0) ≡ now (s′ .1 .1 .1 .0))
+pub bahmorist-fingerprint-has-one-answer : (κs : _) (a : _) (r r′ : _) (s s′ : _) → bahmorist_fingerprint.Post κs a r s → bahmorist_fingerprint.Post κs a r′ s′
+    → (r ≡ r′) × (now (s .1 .1 .0) ≡ now (s′ .1 .1 .0)) × (now (s .1 .1 .1 .0) ≡ now (s′ .1 .1 .1 .0))
 bahmorist-fingerprint-has-one-answer κs a r r′ s s′ p q = (p .0 ∙ sym (q .0), p .1 .0 ∙ sym (q .1 .0), p .1 .1 ∙ sym (q .1 .1))

@@ -15,7 +15,7 @@ use Rattle.echo.specs.Routines.{compressLeaves, compressRefusal, roundsB
 use Rattle.echo.specs.Square.{bigMixColumns, bigShiftRows, keysFrom, rounds, roundsBack}
 use Rattle.echo.proofs.Laws.Compression.{block-parts, fold-loaded}
 use Rattle.echo.proofs.Laws.Numbers.{key-bytes}
-use Rattle.echo.proofs.Laws.Refusals.{compress-fit, done}
+use Rattle.echo.proofs.Laws.Refusals.{compress-parts, compress-some, compress-square, done}
 use Rattle.echo.proofs.Laws.Square.{Keys, rounds-are-squares, rounds-back-are-squares, rounds-back-undone, rounds-undone}
 use Rattle.echo.proofs.Laws.Undone.{undo-each-other}
 
@@ -27,7 +27,8 @@ module _ (n start : ℕ) (salt : List ℕ) (L : Bytes 16 salt) where
   squares-go-to-squares = rounds-are-squares (keysFrom start) salt keys L n
 
   -- squares that go to one square are one
-  pub different-squares-go-to-different-squares : (s t : List ℕ) → Bytes 256 s → Bytes 256 t → rounds n (keysFrom start) salt s ≡ rounds n (keysFrom start) salt t → s ≡ t
+  pub different-squares-go-to-different-squares : (s t : List ℕ) → Bytes 256 s → Bytes 256 t
+      → rounds n (keysFrom start) salt s ≡ rounds n (keysFrom start) salt t → s ≡ t
   different-squares-go-to-different-squares s t S T e =
       sym (rounds-undone (keysFrom start) salt keys L n s S) ∙ ap (roundsBack n (keysFrom start) salt) e ∙ rounds-undone (keysFrom start) salt keys L n t T
 
@@ -44,7 +45,8 @@ module _ (n start : ℕ) (salt : List ℕ) (L : Bytes 16 salt) where
 -- the routines themselves, for every square and salt of bytes, count and counter: where nothing is refused each undoes the other, and a
 -- refusal changes nothing
 pub the-routines-undo-each-other : (square : List ℕ) (count counter : ℕ) (salt : List ℕ) → Bytes (length square) square → Bytes (length salt) salt
-    → (roundsBackLeave (roundsLeave square count counter salt) count counter salt ≡ square) × (roundsLeave (roundsBackLeave square count counter salt) count counter salt ≡ square)
+    → (roundsBackLeave (roundsLeave square count counter salt) count counter salt ≡ square)
+    × (roundsLeave (roundsBackLeave square count counter salt) count counter salt ≡ square)
 the-routines-undo-each-other = undo-each-other
 
 pub row-shift-of-xor : (s t : List ℕ) → bigShiftRows (xorBytes 256 s t) ≡ xorBytes 256 (bigShiftRows s) (bigShiftRows t)
@@ -70,7 +72,9 @@ pub compress-leaves-the-folds : (chaining block : List ℕ) (counter : ℕ) (sal
     (fold (length chaining) (rounds (roundCount (length chaining)) (keysFrom counter) salt (chaining ++ block)))
 unfolding compressLeaves
 compress-leaves-the-folds chaining block counter salt z =
-    let F = compress-fit (length chaining) (length block) counter (length salt) z in
+    let some = compress-some chaining block counter salt _ refl z in
+    let square = compress-square chaining block counter salt _ refl z in
+    let parts = compress-parts chaining block counter salt _ refl z in
     done _ _ chaining z
-    ∙ new-chaining-value (length chaining) (256 / length chaining - 1) (roundCount (length chaining)) counter salt chaining block (F .some) refl
-    (block-parts (length chaining) (length block) (256 / length chaining) (F .square-fits) (F .parts-fit))
+    ∙ new-chaining-value (length chaining) (256 / length chaining - 1) (roundCount (length chaining)) counter salt chaining block some refl
+    (block-parts (length chaining) (length block) (256 / length chaining) square parts)

@@ -15,7 +15,8 @@ use Rattle.echo.proofs.digest_at_once.digest.Reads as digest
 pub rounds-has-one-answer : (κs : _) (a : _) (r r′ : _) (s s′ : _) → rounds.Post κs a r s → rounds.Post κs a r′ s′ → (r ≡ r′) × (now (s .0) ≡ now (s′ .0))
 rounds-has-one-answer κs a r r′ s s′ p q = (p .0 ∙ sym (q .0), p .1 ∙ sym (q .1))
 
-pub rounds-back-has-one-answer : (κs : _) (a : _) (r r′ : _) (s s′ : _) → rounds_back.Post κs a r s → rounds_back.Post κs a r′ s′ → (r ≡ r′) × (now (s .0) ≡ now (s′ .0))
+pub rounds-back-has-one-answer : (κs : _) (a : _) (r r′ : _) (s s′ : _) → rounds_back.Post κs a r s → rounds_back.Post κs a r′ s′
+    → (r ≡ r′) × (now (s .0) ≡ now (s′ .0))
 rounds-back-has-one-answer κs a r r′ s s′ p q = (p .0 ∙ sym (q .0), p .1 ∙ sym (q .1))
 
 pub compress-has-one-answer : (κs : _) (a : _) (r r′ : _) (s s′ : _) → compress.Post κs a r s → compress.Post κs a r′ s′ → (r ≡ r′) × (now (s .0) ≡ now (s′ .0))
@@ -33,5 +34,6 @@ add-has-one-answer κs a r r′ s s′ p q = p ∙ sym q
 pub read-has-one-answer : (κs : _) (a : _) (r r′ : _) (s s′ : _) → read.Post κs a r s → read.Post κs a r′ s′ → (r ≡ r′) × (now (s .1 .0) ≡ now (s′ .1 .0))
 read-has-one-answer κs a r r′ s s′ p q = (p .0 ∙ sym (q .0), p .1 ∙ sym (q .1))
 
-pub digest-has-one-answer : (κs : _) (a : _) (r r′ : _) (s s′ : _) → digest.Post κs a r s → digest.Post κs a r′ s′ → (r ≡ r′) × (now (s .1 .1 .1 .0) ≡ now (s′ .1 .1 .1 .0))
+pub digest-has-one-answer : (κs : _) (a : _) (r r′ : _) (s s′ : _) → digest.Post κs a r s → digest.Post κs a r′ s′
+    → (r ≡ r′) × (now (s .1 .1 .1 .0) ≡ now (s′ .1 .1 .1 .0))
 digest-has-one-answer κs a r r′ s s′ p q = (p .0 ∙ sym (q .0), p .1 ∙ sym (q .1))

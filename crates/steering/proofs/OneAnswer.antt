@@ -13,5 +13,6 @@ read-at-has-one-answer κs a r r′ s s′ p q = p ∙ sym q
 pub count-has-one-answer : (κs : _) (a : _) (r r′ : _) (s s′ : _) → count.Post κs a r s → count.Post κs a r′ s′ → r ≡ r′
 count-has-one-answer κs a r r′ s s′ p q = p ∙ sym q
 
-pub fingerprint-has-one-answer : (κs : _) (a : _) (r r′ : _) (s s′ : _) → fingerprint.Post κs a r s → fingerprint.Post κs a r′ s′ → (r ≡ r′) × (now (s .1 .1 .0) ≡ now (s′ .1 .1 .0))
+pub fingerprint-has-one-answer : (κs : _) (a : _) (r r′ : _) (s s′ : _) → fingerprint.Post κs a r s → fingerprint.Post κs a r′ s′
+    → (r ≡ r′) × (now (s .1 .1 .0) ≡ now (s′ .1 .1 .0))
 fingerprint-has-one-answer κs a r r′ s s′ p q = (p .0 ∙ sym (q .0), p .1 ∙ sym (q .1))

@@ -1,5 +1,5 @@
 -- The theorems of this crate that the pages quote, each closed: what it assumes stands in its statement. Assumes nothing.
-use mathlib.Core.Path.{_≡_, sym}
+use mathlib.Core.Path.{_≡_, refl, sym}
 use mathlib.Core.Logic.{_⊎_, _↔_}
 use mathlib.Core.List.{List, _∷_, _++_}
 use Prim.Native.Nat.{ℕ, suc, _+_, _-_, _<_, _≤_}
@@ -7,7 +7,7 @@ use native.Mathlib.Omega.{arith}
 use lib.ListN.{drop, getD, length, take}
 use Rattle.steering.specs.Fingerprint.{fingerprintAnswer, fingerprintLeaves}
 use Rattle.steering.specs.Numbers.{AreBytes}
-use Rattle.steering.specs.Parsing.{AllFit, Parsed, accepted, parse, refused, tableOf}
+use Rattle.steering.specs.Parsing.{AllFit, accepted, parse, refused, tableOf}
 use Rattle.steering.specs.Reading.{readAt}
 use Rattle.steering.specs.Records.{Fits, bodyLength, bodyOf, kindOf}
 use Rattle.steering.specs.declared.reading.Reading.the-variants.{Found}
@@ -64,7 +64,7 @@ pub a-record-is-what-stands-there : (t : List ℕ) (place next : ℕ) (r : Recor
 a-record-is-what-stands-there t place next r b e = outcomes.stands-there t b place next r e
 
 -- a refusal, whose number is k + 1, leaves the room
-pub a-refused-fingerprint-leaves-the-room : (k : ℕ) (salt room : List ℕ) (q : Parsed)
-    → fingerprintAnswer (length salt) (length room) q .refusal ≡ suc k
-    → fingerprintLeaves salt q room ≡ room
-a-refused-fingerprint-leaves-the-room k salt room q e = sym (fingerprints.left-alone salt room q (λ z. omega (arith, e, z)))
+pub a-refused-fingerprint-leaves-the-room : (k : ℕ) (salt t room : List ℕ)
+    → fingerprintAnswer (length salt) (length room) (parse t) .refusal ≡ suc k
+    → fingerprintLeaves salt (parse t) room ≡ room
+a-refused-fingerprint-leaves-the-room k salt t room e = sym (fingerprints.left-alone salt t room _ refl (λ z. omega (arith, e, z)))

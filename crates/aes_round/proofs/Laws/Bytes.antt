@@ -5,6 +5,8 @@ use mathlib.Core.List.{List}
 use Prim.Native.Nat.{ℕ, zero, suc, _+_, _<_, _≤_}
 use native.Mathlib.Nat.{not-suc-le-zero, le-of-suc-le-suc, zero-add, suc-add, add-suc, add-zero}
 use native.Mathlib.Omega.{arith}
+use mir.Syntax.{w8}
+use mir.Val.{Fits}
 use lib.Dec.{T, lit<, ltb, ltb→lt}
 use lib.ListN.{length, getD, List·getD-eq-default}
 use lib.Seq.{ext-getD}
@@ -59,3 +61,7 @@ tab-bytes n f h = bytes-below n (tab n f) (length-tab n f) (λ k l. subst (λ (x
 -- a list that is written out, by one test
 pub bytes-are : (n : ℕ) (l : List ℕ) → length l ≡ n → T (every (λ k. ltb (getD l k 0) 256) n) → Bytes n l
 bytes-are n l e t = bytes-below n l e (λ k h. ltb→lt _ _ (below (λ k. ltb (getD l k 0) 256) n t k h))
+
+-- an array of the code, of which each element fits a byte
+pub bytes-fit : (n : ℕ) (l : List ℕ) → length l ≡ n → ((k : ℕ) → Fits w8 (getD l k 0)) → Bytes n l
+bytes-fit n l e h = record { long = e; small = λ k. h k .fits }

@@ -58,8 +58,10 @@ mix-bytes m c M C = tab-bytes 4 _ (λ i h. dot-lt _ _ _ _ (M .small _) (M .small
 
 -- rows and columns of a 4 by 4 sum change places
 turned : (f : ℕ → ℕ → ℕ)
-    → sum4 (sum4 (f 0 0) (f 0 1) (f 0 2) (f 0 3)) (sum4 (f 1 0) (f 1 1) (f 1 2) (f 1 3)) (sum4 (f 2 0) (f 2 1) (f 2 2) (f 2 3)) (sum4 (f 3 0) (f 3 1) (f 3 2) (f 3 3))
-    ≡ sum4 (sum4 (f 0 0) (f 1 0) (f 2 0) (f 3 0)) (sum4 (f 0 1) (f 1 1) (f 2 1) (f 3 1)) (sum4 (f 0 2) (f 1 2) (f 2 2) (f 3 2)) (sum4 (f 0 3) (f 1 3) (f 2 3) (f 3 3))
+    → sum4 (sum4 (f 0 0) (f 0 1) (f 0 2) (f 0 3)) (sum4 (f 1 0) (f 1 1) (f 1 2) (f 1 3)) (sum4 (f 2 0) (f 2 1) (f 2 2) (f 2 3))
+    (sum4 (f 3 0) (f 3 1) (f 3 2) (f 3 3))
+    ≡ sum4 (sum4 (f 0 0) (f 1 0) (f 2 0) (f 3 0)) (sum4 (f 0 1) (f 1 1) (f 2 1) (f 3 1)) (sum4 (f 0 2) (f 1 2) (f 2 2) (f 3 2))
+    (sum4 (f 0 3) (f 1 3) (f 2 3) (f 3 3))
 turned f = ap₂ xor (sum4-xor _ _ _ _ _ _ _ _) (sum4-xor _ _ _ _ _ _ _ _) ∙ sum4-xor _ _ _ _ _ _ _ _
 
 mul-sum4 : (m a b c d : ℕ) → mul m (sum4 a b c d) ≡ sum4 (mul m a) (mul m b) (mul m c) (mul m d)
@@ -110,8 +112,11 @@ module _ (N M : List ℕ) (t : T (One N M)) where
   unfolding dot mixColumn tab
   row-undone c C i hi =
       sum4-ap (mul-sum4 _ _ _ _ _) (mul-sum4 _ _ _ _ _) (mul-sum4 _ _ _ _ _) (mul-sum4 _ _ _ _ _)
-      ∙ turned (λ j k. mul (getD (getD N (4 * i) 0 ∷ getD N (4 * i + 1) 0 ∷ getD N (4 * i + 2) 0 ∷ getD N (4 * i + 3) 0 ∷ []) j 0) (mul (getD M (4 * j + k) 0) (getD c k 0)))
-      ∙ sum4-ap (product-is i 0 hi (lit< tt) _ (C .small 0)) (product-is i 1 hi (lit< tt) _ (C .small 1)) (product-is i 2 hi (lit< tt) _ (C .small 2)) (product-is i 3 hi (lit< tt) _ (C .small 3))
+      ∙ turned
+      (λ j k. mul (getD (getD N (4 * i) 0 ∷ getD N (4 * i + 1) 0 ∷ getD N (4 * i + 2) 0 ∷ getD N (4 * i + 3) 0 ∷ []) j 0)
+      (mul (getD M (4 * j + k) 0) (getD c k 0)))
+      ∙ sum4-ap (product-is i 0 hi (lit< tt) _ (C .small 0)) (product-is i 1 hi (lit< tt) _ (C .small 1)) (product-is i 2 hi (lit< tt) _ (C .small 2))
+      (product-is i 3 hi (lit< tt) _ (C .small 3))
       ∙ kept c i hi
 
   undone : (c : List ℕ) → Bytes 4 c → mixColumn N (mixColumn M c) ≡ c

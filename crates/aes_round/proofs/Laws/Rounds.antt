@@ -11,11 +11,13 @@ use Rattle.aes_round.specs.Bytes.{Bytes, tab, xorBytes}
 use Rattle.aes_round.specs.Array.{array, column, entry}
 use Rattle.aes_round.specs.Mixing.{backward, forward, mixColumn}
 use Rattle.aes_round.specs.Substitution.{Table, subByte, subByteBack}
-use Rattle.aes_round.specs.Rounds.{addRoundKey, aesRound, aesRoundBack, mixColumns, shiftBackFrom, shiftFrom, shiftRows, shiftRowsBack, subBytes, subBytesBack}
+use Rattle.aes_round.specs.Rounds.{addRoundKey, aesRound, aesRoundBack, mixColumns, shiftBackFrom}
+use Rattle.aes_round.specs.Rounds.{shiftFrom, shiftRows, shiftRowsBack, subBytes, subBytesBack}
 use Rattle.aes_round.proofs.Laws.Every.{agree}
 use Rattle.aes_round.proofs.Laws.Bytes.{getD-tab, is-tab, length-tab, tab-bytes, tab-ext}
 use Rattle.aes_round.proofs.Laws.Xor.{getD-xor, length-xor, xor-bytes, xor-bytes-twice}
-use Rattle.aes_round.proofs.Laws.Array.{array-bytes, array-ext, column-bytes, column-xor, entry-array, entry-byte, entry-xor, getD-column, is-array, length-array, xor-array}
+use Rattle.aes_round.proofs.Laws.Array.{array-bytes, array-ext, column-bytes, column-xor, entry-array, entry-byte}
+use Rattle.aes_round.proofs.Laws.Array.{entry-xor, getD-column, is-array, length-array, xor-array}
 use Rattle.aes_round.proofs.Laws.Substitution.{sub-back-lt, sub-back-undone, sub-lt, sub-undone, table-at}
 use Rattle.aes_round.proofs.Laws.Mixing.{backward-bytes, forward-bytes, length-mix, mix-back-undone, mix-bytes, mix-undone, mix-xor}
 
@@ -130,7 +132,8 @@ module _ (w : ℕ) where
   unfolding column
   column-mix m s c b hc hb =
       sym (is-tab 4 (mixColumn m (column w s c b)) _ (length-mix m _)
-      (λ i hi. sym (entry-mix m s (4 * c + i) b (omega arith) hb ∙ ap₂ (λ (q r : ℕ). getD (mixColumn m (column w s q b)) r 0) (quotient c i hi) (remainder c i hi))))
+      (λ i hi. sym
+      (entry-mix m s (4 * c + i) b (omega arith) hb ∙ ap₂ (λ (q r : ℕ). getD (mixColumn m (column w s q b)) r 0) (quotient c i hi) (remainder c i hi))))
     where
       quotient : (c i : ℕ) → i < 4 → (4 * c + i) / 4 ≡ c
       quotient c i h = omega arith
@@ -138,7 +141,8 @@ module _ (w : ℕ) where
       remainder : (c i : ℕ) → i < 4 → (4 * c + i) % 4 ≡ i
       remainder c i h = omega arith
 
-  mix-columns-back : (N M : List ℕ) → ((c : List ℕ) → Bytes 4 c → mixColumn N (mixColumn M c) ≡ c) → (s : List ℕ) → Bytes (16 * w) s → mixColumns w N (mixColumns w M s) ≡ s
+  mix-columns-back : (N M : List ℕ) → ((c : List ℕ) → Bytes 4 c → mixColumn N (mixColumn M c) ≡ c) → (s : List ℕ) → Bytes (16 * w) s
+      → mixColumns w N (mixColumns w M s) ≡ s
   unfolding mixColumns
   mix-columns-back N M undo s B =
       sym (is-array w s _ (B .long)
@@ -209,19 +213,42 @@ round-back-undone s k S K =
 -- ---- what the code's steps compute
 
 -- bytes looked up in a table that follows the rule f
-pub looked-up : (f : ℕ → ℕ) (t s : List ℕ) → Table f t → Bytes 16 s → tab 16 (λ k. getD t (getD s k 0) 0) ≡ tab 16 (λ k. f (getD s k 0))
+looked-up : (f : ℕ → ℕ) (t s : List ℕ) → Table f t → Bytes 16 s → tab 16 (λ k. getD t (getD s k 0) 0) ≡ tab 16 (λ k. f (getD s k 0))
 looked-up f t s rule S = tab-ext 16 _ _ (λ k h. table-at f t rule (getD s k 0) (S .small k))
 
+-- a column of a word from the place i on, and the word of four columns
+abbrev columnFrom : List ℕ → ℕ → List ℕ
+columnFrom s i = getD s i 0 ∷ getD s (i + 1) 0 ∷ getD s (i + 2) 0 ∷ getD s (i + 3) 0 ∷ []
+
+abbrev wordOf : List ℕ → List ℕ → List ℕ → List ℕ → List ℕ
+wordOf a b c d =
+    getD a 0 0 ∷ getD a 1 0 ∷ getD a 2 0 ∷ getD a 3 0 ∷ getD b 0 0 ∷ getD b 1 0 ∷ getD b 2 0 ∷ getD b 3 0
+    ∷ getD c 0 0 ∷ getD c 1 0 ∷ getD c 2 0 ∷ getD c 3 0 ∷ getD d 0 0 ∷ getD d 1 0 ∷ getD d 2 0 ∷ getD d 3 0 ∷ []
+
 -- the four columns of a word, mixed one by one
-pub mix-columns-are : (m s a b c d : List ℕ)
-    → a ≡ mixColumn m (getD s 0 0 ∷ getD s 1 0 ∷ getD s 2 0 ∷ getD s 3 0 ∷ [])
-    → b ≡ mixColumn m (getD s 4 0 ∷ getD s 5 0 ∷ getD s 6 0 ∷ getD s 7 0 ∷ [])
-    → c ≡ mixColumn m (getD s 8 0 ∷ getD s 9 0 ∷ getD s 10 0 ∷ getD s 11 0 ∷ [])
-    → d ≡ mixColumn m (getD s 12 0 ∷ getD s 13 0 ∷ getD s 14 0 ∷ getD s 15 0 ∷ [])
-    → getD a 0 0 ∷ getD a 1 0 ∷ getD a 2 0 ∷ getD a 3 0 ∷ getD b 0 0 ∷ getD b 1 0 ∷ getD b 2 0 ∷ getD b 3 0 ∷ getD c 0 0 ∷ getD c 1 0 ∷ getD c 2 0 ∷ getD c 3 0 ∷ getD d 0 0 ∷ getD d 1 0 ∷ getD d 2 0 ∷ getD d 3 0 ∷ []
-    ≡ mixColumns 1 m s
+pub mix-columns-are : (m s w x y z a b c d r : List ℕ) → r ≡ wordOf a b c d
+    → a ≡ mixColumn m w → w ≡ columnFrom s 0
+    → b ≡ mixColumn m x → x ≡ columnFrom s 4
+    → c ≡ mixColumn m y → y ≡ columnFrom s 8
+    → d ≡ mixColumn m z → z ≡ columnFrom s 12
+    → r ≡ mixColumns 1 m s
 unfolding mixColumns array column entry tab
-mix-columns-are m s a b c d p q r t = rw (p, q, r, t)
+mix-columns-are m s w x y z a b c d r e f f′ g g′ h h′ i i′ = rw (e, f, f′, g, g′, h, h′, i, i′)
+
+-- the steps of a round and of the way back, by a table t
+pub round-steps : (t s k a b c d : List ℕ) → d ≡ addRoundKey c k → c ≡ mixColumns 1 forward b → b ≡ shiftRows 1 a
+    → a ≡ tab 16 (λ i. getD t (getD s i 0) 0) → Table subByte t → Bytes 16 s → d ≡ aesRound s k
+unfolding aesRound subBytes
+round-steps t s k a b c d e f g h rule S = rw (e, f, g, h, looked-up subByte t s rule S)
+
+pub round-steps-back : (t s k a b c d : List ℕ) → d ≡ tab 16 (λ i. getD t (getD c i 0) 0) → c ≡ shiftRowsBack 1 b → b ≡ mixColumns 1 backward a
+    → a ≡ addRoundKey s k → Table subByteBack t → Bytes 16 c → d ≡ aesRoundBack s k
+unfolding aesRoundBack subBytesBack
+round-steps-back t s k a b c d e f g h rule S = e ∙ looked-up subByteBack t c rule S ∙ rw (f, g, h)
+
+-- a round f with two keys, one after the other
+pub twice : (f : List ℕ → List ℕ → List ℕ) (s k l a b : List ℕ) → b ≡ f a l → a ≡ f s k → b ≡ f (f s k) l
+twice f s k l a b e g = e ∙ ap (λ (x : List ℕ). f x l) g
 
 -- the place that byte k of a word comes from, in the code's form
 pub shift-word : (s : List ℕ) → tab 16 (λ k. getD s (5 * k % 16) 0) ≡ shiftRows 1 s

@@ -68,7 +68,9 @@ IsInverse a e = both (ltb e 256) (both (eqb (mul a e) (min a 1)) (eqb (min e 1) 
 
 -- only the inverse passes: with y the inverse of a, e = 1 e = (y a) e = y (a e) = y 1 = y. One product in the test, where x^254 has thirteen.
 inverse-only : (a e : ℕ) → a < 256 → T (IsInverse a e) → e ≡ inverse a
-inverse-only a e h t = by a h (ltb→lt e 256 (both-left (ltb e 256) rest t)) (eqb→eq (mul a e) (min a 1) (both-left product none (both-right (ltb e 256) rest t))) (eqb→eq (min e 1) (min a 1) (both-right product none (both-right (ltb e 256) rest t)))
+inverse-only a e h t =
+    by a h (ltb→lt e 256 (both-left (ltb e 256) rest t)) (eqb→eq (mul a e) (min a 1) (both-left product none (both-right (ltb e 256) rest t)))
+    (eqb→eq (min e 1) (min a 1) (both-right product none (both-right (ltb e 256) rest t)))
   where
     product : Bool
     product = eqb (mul a e) (min a 1)
@@ -144,7 +146,11 @@ Undone t u x = eqb (getD u (getD t x 0) 0) x
 pub undo-is : (t u : List ℕ) → T (every (λ x. both (Undone t u x) (Undone u t x)) 256) → Undo t u
 undo-is t u test =
     let passes = below (λ x. both (Undone t u x) (Undone u t x)) 256 test in
-    record { forth = λ x h. eqb→eq _ x (both-left (Undone t u x) (Undone u t x) (passes x h)); back = λ x h. eqb→eq _ x (both-right (Undone t u x) (Undone u t x) (passes x h)) }
+    record {
+      forth = λ x h. eqb→eq _ x (both-left (Undone t u x) (Undone u t x) (passes x h));
+      back = λ x h. eqb→eq _ x
+          (both-right (Undone t u x) (Undone u t x) (passes x h));
+    }
 
 -- and then the second follows the rule back where the first follows its rule
 pub back-table-is : (t u : List ℕ) → Table subByte t → Undo t u → Table subByteBack u

@@ -46,7 +46,9 @@ module _ (c : List ℕ) (b : ℕ) (v : List ℕ) (l : length c ≡ 64) (h : b < 
   put-same zero q hn hq = absurd (not-suc-le-zero hq)
   put-same (suc n) q hn hq =
       ⊎-elim
-      (λ (e : q ≡ n). ap (λ (k : ℕ). getD (put c b v (suc n)) (16 * k + b) 0) e ∙ getD-set-same (put c b v n) (16 * n + b) (getD v n 0) 0 (subst (λ (m : ℕ). 16 * n + b < m) (sym (put-long n)) (omega arith)) ∙ ap (λ (k : ℕ). getD v k 0) (sym e))
+      (λ (e : q ≡ n). ap (λ (k : ℕ). getD (put c b v (suc n)) (16 * k + b) 0) e
+      ∙ getD-set-same (put c b v n) (16 * n + b) (getD v n 0) 0 (subst (λ (m : ℕ). 16 * n + b < m) (sym (put-long n)) (omega arith))
+      ∙ ap (λ (k : ℕ). getD v k 0) (sym e))
       (λ (lt : q < n). getD-set-other (put c b v n) (16 * n + b) (16 * q + b) (getD v n 0) 0 (λ e. omega arith) ∙ put-same n q (omega arith) lt)
       (eq-or-lt-of-le (le-of-suc-le-suc hq))
 
@@ -83,7 +85,10 @@ module _ (m c₀ : List ℕ) where
     reach = omega arith;
     done = λ q x hq hx.
         ⊎-elim
-        (λ (p : x ≡ b). ap (λ (k : ℕ). getD (put c b v 4) (16 * q + k) 0) p ∙ put-same c b v (M .long) h 4 q (lit≤ tt) hq ∙ ap (λ (u : List ℕ). getD u q 0) e ∙ ap (λ (k : ℕ). getD (mixColumn m (columnAt c₀ k)) q 0) (sym p))
+        (λ (p : x ≡ b). ap (λ (k : ℕ). getD (put c b v 4) (16 * q + k) 0) p
+        ∙ put-same c b v (M .long) h 4 q (lit≤ tt) hq
+        ∙ ap (λ (u : List ℕ). getD u q 0) e
+        ∙ ap (λ (k : ℕ). getD (mixColumn m (columnAt c₀ k)) q 0) (sym p))
         (λ (lt : x < b). put-other c b v (M .long) h 4 (16 * q + x) (other q x (omega arith) (λ p. omega arith)) ∙ M .done q x hq lt)
         (eq-or-lt-of-le (last x hx));
     rest = λ k le. put-other c b v (M .long) h 4 k (λ p. omega arith) ∙ M .rest k (omega arith);
@@ -142,7 +147,8 @@ module _ (m l : List ℕ) where
   unfolding Columns
   no-columns = fill-none 256 mixedByte l
 
-  next-column : (j : ℕ) (s c t : List ℕ) → Columns j s → j < 4 → Placed s (64 * j) (mixWords m c) 64 t → ((k : ℕ) → k < 64 → getD c k 0 ≡ getD s (64 * j + k) 0) → Columns (j + 1) t
+  next-column : (j : ℕ) (s c t : List ℕ) → Columns j s → j < 4 → Placed s (64 * j) (mixWords m c) 64 t → ((k : ℕ) → k < 64 → getD c k 0 ≡ getD s (64 * j + k) 0)
+      → Columns (j + 1) t
   unfolding Columns mixedByte mixWords
   next-column j s c t F h P e =
       subst (λ (k : ℕ). Filled 256 mixedByte l k t) (steps j)

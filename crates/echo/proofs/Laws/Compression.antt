@@ -91,7 +91,8 @@ fold-loaded c v m n h lv lm =
     ∙ xorSum-first n (λ j. getD (v ++ m) (c * j + k) 0)
     ∙ ap₂ xor
     (ap (λ (i : ℕ). getD (v ++ m) i 0) (ap (λ (x : ℕ). x + k) (mul-zero c) ∙ zero-add k) ∙ first-part c v m lv k hk)
-    (sum-ext n _ _ (λ j. ap (λ (i : ℕ). getD (v ++ m) i 0) (behind j k) ∙ second-part c v m lv (c * j + k)) ∙ ap (λ (i : ℕ). xorSum i (λ j. getD m (c * j + k) 0)) (sym (ap (λ (x : ℕ). x / c) lm ∙ mul-div-cancel-left n h)))
+    (sum-ext n _ _ (λ j. ap (λ (i : ℕ). getD (v ++ m) i 0) (behind j k) ∙ second-part c v m lv (c * j + k))
+    ∙ ap (λ (i : ℕ). xorSum i (λ j. getD m (c * j + k) 0)) (sym (ap (λ (x : ℕ). x / c) lm ∙ mul-div-cancel-left n h)))
     ∙ sym (getD-xor c v _ k hk ∙ ap (xor (getD v k 0)) (getD-tab c _ k hk)))
   where
     parts : length (v ++ m) / c ≡ suc n
@@ -134,7 +135,10 @@ loaded z v m s t lz l P Q =
     (λ k lt.
     ⊎-elim (λ (h : k < length v). Q .before k h ∙ ap (λ (i : ℕ). getD s i 0) (sym (zero-add k)) ∙ P .inside k h ∙ sym (first-part (length v) v m refl k h))
     (λ (g : length v ≤ k).
-    ap (λ (i : ℕ). getD t i 0) (sym (back k g)) ∙ Q .inside (k - length v) (left k g lt) ∙ sym (second-part (length v) v m refl (k - length v)) ∙ ap (λ (i : ℕ). getD (v ++ m) i 0) (back k g))
+    ap (λ (i : ℕ). getD t i 0) (sym (back k g))
+    ∙ Q .inside (k - length v) (left k g lt)
+    ∙ sym (second-part (length v) v m refl (k - length v))
+    ∙ ap (λ (i : ℕ). getD (v ++ m) i 0) (back k g))
     (lt-or-le k (length v)))
   where
     back : (k : ℕ) → length v ≤ k → length v + (k - length v) ≡ k

@@ -93,7 +93,9 @@ begun w u m e h l =
     from k lt g =
         ap (λ (i : ℕ). getD (set w u 0x80) i 0) (sym (on k g))
         ∙ behind (k - u) (omega arith)
-        ∙ sym (ap (λ (i : ℕ). getD (take u w ++ (0x80 ∷ replicate (m - u - 1) 0)) i 0) (sym (on k g)) ∙ second-part u (take u w) (0x80 ∷ replicate (m - u - 1) 0) short (k - u))
+        ∙ sym
+        (ap (λ (i : ℕ). getD (take u w ++ (0x80 ∷ replicate (m - u - 1) 0)) i 0) (sym (on k g))
+        ∙ second-part u (take u w) (0x80 ∷ replicate (m - u - 1) 0) short (k - u))
 
 -- ---- the numbers: u bytes wait
 
@@ -168,7 +170,8 @@ length-lengths h n = length-append (littleEndian 2 h) (littleEndian 16 (8 * n)) 
 
 take-zeros : (m n : ℕ) → m ≤ n → take {A = ℕ} m (replicate n 0) ≡ replicate m 0
 take-zeros m n h =
-    ap (take m) (ap (λ (k : ℕ). replicate k 0) (sym (on h)) ∙ sym (replicate-append-replicate m (n - m) 0)) ∙ take-at (replicate m 0) (replicate (n - m) 0) m (length-replicate m 0)
+    ap (take m) (ap (λ (k : ℕ). replicate k 0) (sym (on h)) ∙ sym (replicate-append-replicate m (n - m) 0))
+    ∙ take-at (replicate m 0) (replicate (n - m) 0) m (length-replicate m 0)
   where
     on : m ≤ n → m + (n - m) ≡ n
     on h = omega arith
@@ -207,7 +210,8 @@ module _ (b h n : ℕ) (w : List ℕ) (lw : length w ≡ 192) (least : 128 ≤ b
   two-second k =
       ap₂ (λ (x : ℕ) (l : List ℕ). take b (drop x l)) (mul-one b) (halves k)
       ∙ ap (take b) (drop-at (take b (set w (n % b) 0x80)) _ b (begun-long b most))
-      ∙ take-all b (replicate (b - 18) 0 ++ lengthsOf h n) (omega (arith, length-append (replicate (b - 18) 0) (lengthsOf h n), length-replicate {A = ℕ} (b - 18) 0, length-lengths h n))
+      ∙ take-all b (replicate (b - 18) 0 ++ lengthsOf h n)
+      (omega (arith, length-append (replicate (b - 18) 0) (lengthsOf h n), length-replicate {A = ℕ} (b - 18) 0, length-lengths h n))
       ∙ ap (λ (l : List ℕ). l ++ lengthsOf h n) (sym (take-zeros (b - 18) 192 (omega arith)))
 
 -- ---- the lengths e put into the last bytes of a block, by a block size b that the code computed
@@ -240,14 +244,18 @@ taken-in h salt v k m = take-at _ (drop (chainingSize h) v) (chainingSize h) (le
 
 module _ (h n : ℕ) (salt v w : List ℕ) (lw : length w ≡ 192) (z : allZero (drop (n % blockSize h) w) ≡ true) where
   final-one : n % blockSize h + 19 ≤ blockSize h
-      → take (chainingSize h) (compressed h salt v (either (eqb (n % blockSize h) 0) 0 (8 * n)) (take (blockSize h - 18) (set w (n % blockSize h) 0x80) ++ lengthsOf h n)) ≡ finalChaining (made h salt v n w)
+      → take (chainingSize h)
+      (compressed h salt v (either (eqb (n % blockSize h) 0) 0 (8 * n)) (take (blockSize h - 18) (set w (n % blockSize h) 0x80) ++ lengthsOf h n))
+      ≡ finalChaining (made h salt v n w)
   unfolding finalChaining iterate
   final-one k =
       let S = sizes h in
       taken-in h salt v _ _
       ∙ ap₂ (λ (x : ℕ) (m : List ℕ). compress (chainingSize h) (roundCount (chainingSize h)) (keysFrom x) salt (take (chainingSize h) v) m)
       (sym (first-counter (blockSize h) n (S .block-least))) (sym (one (blockSize h) h n w lw (S .block-least) (S .block-most) z k))
-      ∙ ap (iterate (chainingSize h) (roundCount (chainingSize h)) salt (take (chainingSize h) v) (block (blockSize h) (take (n % blockSize h) w ++ padding (blockSize h) h n)) (λ i. counterAt (blockSize h) n (n / blockSize h + i)))
+      ∙ ap
+      (iterate (chainingSize h) (roundCount (chainingSize h)) salt (take (chainingSize h) v)
+      (block (blockSize h) (take (n % blockSize h) w ++ padding (blockSize h) h n)) (λ i. counterAt (blockSize h) n (n / blockSize h + i)))
       (sym (one-block (blockSize h) n (S .block-least) k))
 
   final-two : blockSize h < n % blockSize h + 19 → (u : List ℕ)
@@ -262,9 +270,15 @@ module _ (h n : ℕ) (salt v w : List ℕ) (lw : length w ≡ 192) (z : allZero 
       ∙ ap₂ (λ (x : ℕ) (m : List ℕ). compress (chainingSize h) (roundCount (chainingSize h)) (keysFrom x) salt (take (chainingSize h) v) m)
       (sym (first-counter (blockSize h) n (S .block-least))) (sym (two-first (blockSize h) h n w lw (S .block-least) (S .block-most) z k)))
       (sym (two-second (blockSize h) h n w lw (S .block-least) (S .block-most) z k))
-      ∙ ap (λ (x : ℕ). compress (chainingSize h) (roundCount (chainingSize h)) (keysFrom x) salt (compress (chainingSize h) (roundCount (chainingSize h)) (keysFrom (counterAt (blockSize h) n (n / blockSize h + 0))) salt (take (chainingSize h) v) (block (blockSize h) (take (n % blockSize h) w ++ padding (blockSize h) h n) 0)) (block (blockSize h) (take (n % blockSize h) w ++ padding (blockSize h) h n) 1))
+      ∙ ap
+      (λ (x : ℕ). compress (chainingSize h) (roundCount (chainingSize h)) (keysFrom x) salt
+      (compress (chainingSize h) (roundCount (chainingSize h)) (keysFrom (counterAt (blockSize h) n (n / blockSize h + 0))) salt (take (chainingSize h) v)
+      (block (blockSize h) (take (n % blockSize h) w ++ padding (blockSize h) h n) 0))
+      (block (blockSize h) (take (n % blockSize h) w ++ padding (blockSize h) h n) 1))
       (sym (second-counter (blockSize h) n (S .block-least)))
-      ∙ ap (iterate (chainingSize h) (roundCount (chainingSize h)) salt (take (chainingSize h) v) (block (blockSize h) (take (n % blockSize h) w ++ padding (blockSize h) h n)) (λ i. counterAt (blockSize h) n (n / blockSize h + i)))
+      ∙ ap
+      (iterate (chainingSize h) (roundCount (chainingSize h)) salt (take (chainingSize h) v)
+      (block (blockSize h) (take (n % blockSize h) w ++ padding (blockSize h) h n)) (λ i. counterAt (blockSize h) n (n / blockSize h + i)))
       (sym (two-blocks (blockSize h) n (S .block-least) k))
 
 -- the counter of a block that is left is low enough
@@ -287,13 +301,15 @@ module _ (h n b k : ℕ) (size : b ≡ blockSize h) (counter : k ≡ either (eqb
     pub one-left : n % b + 19 ≤ b → (u : List ℕ) → u ≡ compressed h salt v k (take (blockSize h - 18) (set w (n % b) 0x80) ++ lengthsOf h n)
         → take (chainingSize h) u ≡ finalChaining (made h salt v n w)
     one-left fits u e =
-        ap (take (chainingSize h)) (e ∙ ap₂ (λ (x y : ℕ). compressed h salt v x (take (blockSize h - 18) (set w (n % y) 0x80) ++ lengthsOf h n)) counter-is size)
+        ap (take (chainingSize h))
+        (e ∙ ap₂ (λ (x y : ℕ). compressed h salt v x (take (blockSize h - 18) (set w (n % y) 0x80) ++ lengthsOf h n)) counter-is size)
         ∙ final-one h n salt v w lw z (subst (λ (x : ℕ). n % x + 19 ≤ x) size fits)
 
     pub two-left : b < n % b + 19 → (u l r : List ℕ) → u ≡ compressed h salt v k (take (blockSize h) (set w (n % b) 0x80))
         → l ≡ replicate (length (set w (n % b) 0x80)) 0 → r ≡ compressed h salt u 0 (take (blockSize h - 18) l ++ lengthsOf h n)
         → take (chainingSize h) r ≡ finalChaining (made h salt v n w)
     two-left over u l r first zeros second =
-        ap (take (chainingSize h)) (second ∙ ap (λ (x : List ℕ). compressed h salt u 0 (take (blockSize h - 18) x ++ lengthsOf h n)) (cleared w l (n % b) 0x80 192 zeros lw))
+        ap (take (chainingSize h))
+        (second ∙ ap (λ (x : List ℕ). compressed h salt u 0 (take (blockSize h - 18) x ++ lengthsOf h n)) (cleared w l (n % b) 0x80 192 zeros lw))
         ∙ final-two h n salt v w lw z (subst (λ (x : ℕ). x < n % x + 19) size over) u
         (first ∙ ap₂ (λ (x y : ℕ). compressed h salt v x (take (blockSize h) (set w (n % y) 0x80))) counter-is size)

@@ -22,8 +22,8 @@ unfolding chainingSize blockSize
 sizes h = by (leb h 256)
   where
     by : (t : Bool) → Sizes (either t 64 128) (either t 192 128)
-    by true = record { some = omega arith; half = omega arith; most = omega arith; block-least = omega arith; block-most = omega arith; square = refl; parts = refl; rounds-most = omega arith }
-    by false = record { some = omega arith; half = omega arith; most = omega arith; block-least = omega arith; block-most = omega arith; square = refl; parts = refl; rounds-most = omega arith }
+    by true = omega arith
+    by false = omega arith
 
 pub block-pos : (h : ℕ) → 0 < blockSize h
 block-pos h = let S = sizes h in omega arith

@@ -16,7 +16,8 @@ use Rattle.echo.proofs.Laws.Joined.{first-part, second-part}
 -- room that is filled from the front, with zeros behind
 filled-front : (n i : ℕ) (f : ℕ → ℕ) (r : List ℕ) → Filled n f (replicate n 0) i r → r ≡ tab i f ++ replicate (n - i) 0
 filled-front n i f r F =
-    same-list n r (tab i f ++ replicate (n - i) 0) (F .long) (length-append (tab i f) (replicate (n - i) 0) ∙ omega (arith, length-tab i f, length-replicate {A = ℕ} (n - i) 0, F .in-reach))
+    same-list n r (tab i f ++ replicate (n - i) 0) (F .long)
+    (length-append (tab i f) (replicate (n - i) 0) ∙ omega (arith, length-tab i f, length-replicate {A = ℕ} (n - i) 0, F .in-reach))
     (λ k h. ⊎-elim (front k) (rest k h) (lt-or-le k i))
   where
     front : (k : ℕ) → k < i → getD r k 0 ≡ getD (tab i f ++ replicate (n - i) 0) k 0
@@ -31,7 +32,10 @@ filled-front n i f r F =
     rest : (k : ℕ) → k < n → i ≤ k → getD r k 0 ≡ getD (tab i f ++ replicate (n - i) 0) k 0
     rest k h g =
         F .rest k g ∙ getD-replicate n k 0 0 h
-        ∙ sym (ap (λ (x : ℕ). getD (tab i f ++ replicate (n - i) 0) x 0) (sym (on k g)) ∙ second-part i (tab i f) (replicate (n - i) 0) (length-tab i f) (k - i) ∙ getD-replicate (n - i) (k - i) 0 0 (left k h g))
+        ∙ sym
+        (ap (λ (x : ℕ). getD (tab i f ++ replicate (n - i) 0) x 0) (sym (on k g))
+        ∙ second-part i (tab i f) (replicate (n - i) 0) (length-tab i f) (k - i)
+        ∙ getD-replicate (n - i) (k - i) 0 0 (left k h g))
 
 -- the bytes up to the size c that the code computed
 module _ (h c k : ℕ) (size : c ≡ chainingSize h) where

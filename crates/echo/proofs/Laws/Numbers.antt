@@ -17,10 +17,15 @@ pub little-bytes : (n x : ℕ) → Bytes n (littleEndian n x)
 unfolding littleEndian
 little-bytes n x = tab-bytes n _ (λ i h. mod-lt _ (lit< tt))
 
+-- the eight bytes of a number, written out in front of others
+abbrev eightBefore : ℕ → List ℕ → List ℕ
+eightBefore κ l =
+    κ % 0x100 ∷ κ / 0x100 % 0x100 ∷ κ / 0x10000 % 0x100 ∷ κ / 0x1000000 % 0x100
+    ∷ κ / 0x100000000 % 0x100 ∷ κ / 0x10000000000 % 0x100 ∷ κ / 0x1000000000000 % 0x100 ∷ κ / 0x100000000000000 % 0x100 ∷ l
+
 module _ (κ : ℕ) where
   eight : List ℕ
-  eight =
-      κ % 0x100 ∷ κ / 0x100 % 0x100 ∷ κ / 0x10000 % 0x100 ∷ κ / 0x1000000 % 0x100 ∷ κ / 0x100000000 % 0x100 ∷ κ / 0x10000000000 % 0x100 ∷ κ / 0x1000000000000 % 0x100 ∷ κ / 0x100000000000000 % 0x100 ∷ []
+  eight = eightBefore κ []
 
   eight-are : (i : ℕ) → i < 8 → getD eight i 0 ≡ κ / 256 ^ i % 256
   unfolding eight
@@ -34,10 +39,8 @@ module _ (κ : ℕ) where
   eight-are (suc (suc (suc (suc (suc (suc (suc zero))))))) h = refl
   eight-are (suc (suc (suc (suc (suc (suc (suc (suc i)))))))) h = absurd (omega arith)
 
-  -- the eight bytes of a counter and eight zeros, written out
-  pub counter-key-is :
-      κ % 0x100 ∷ κ / 0x100 % 0x100 ∷ κ / 0x10000 % 0x100 ∷ κ / 0x1000000 % 0x100 ∷ κ / 0x100000000 % 0x100 ∷ κ / 0x10000000000 % 0x100 ∷ κ / 0x1000000000000 % 0x100 ∷ κ / 0x100000000000000 % 0x100 ∷ 0 ∷ 0 ∷ 0 ∷ 0 ∷ 0 ∷ 0 ∷ 0 ∷ 0 ∷ []
-      ≡ counterKey κ
+  -- the eight bytes of a counter and eight zeros
+  pub counter-key-is : eightBefore κ (replicate 8 0) ≡ counterKey κ
   unfolding eight counterKey littleEndian
   counter-key-is = ap (λ (l : List ℕ). l ++ replicate 8 0) (is-tab 8 eight _ refl eight-are)
 
@@ -86,9 +89,7 @@ module _ (bits count : ℕ) (h : count < 2 ^ 64) where
   two = is-tab 2 (bits % 0x100 ∷ bits / 0x100 % 0x100 ∷ []) _ refl two-are
 
   -- the end of the padding, written out
-  pub lengths-are :
-      bits % 0x100 ∷ bits / 0x100 % 0x100 ∷ count % 0x100 ∷ count / 0x100 % 0x100 ∷ count / 0x10000 % 0x100 ∷ count / 0x1000000 % 0x100 ∷ count / 0x100000000 % 0x100 ∷ count / 0x10000000000 % 0x100 ∷ count / 0x1000000000000 % 0x100 ∷ count / 0x100000000000000 % 0x100 ∷ 0 ∷ 0 ∷ 0 ∷ 0 ∷ 0 ∷ 0 ∷ 0 ∷ 0 ∷ []
-      ≡ littleEndian 2 bits ++ littleEndian 16 count
+  pub lengths-are : bits % 0x100 ∷ bits / 0x100 % 0x100 ∷ eightBefore count (replicate 8 0) ≡ littleEndian 2 bits ++ littleEndian 16 count
   lengths-are =
       ap (λ (l : List ℕ). bits % 0x100 ∷ bits / 0x100 % 0x100 ∷ l) (counter-key-is count ∙ sym (sixteen-of-eight count h))
       ∙ ap (λ (l : List ℕ). l ++ littleEndian 16 count) two

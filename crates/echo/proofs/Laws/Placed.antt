@@ -38,7 +38,8 @@ placed-whole l w r n P hw hl = ext-getD 0 r w same (λ k h. ap (λ (m : ℕ). ge
     same = P .long ∙ hl ∙ sym hw
 
 -- a loop that fills a list from the front, n bytes at a turn
-pub fill-part : (N : ℕ) (f : ℕ → ℕ) (l : List ℕ) (i : ℕ) (r w r′ : List ℕ) (n : ℕ) → Filled N f l i r → Placed r i w n r′ → i + n ≤ N → ((k : ℕ) → k < n → getD w k 0 ≡ f (i + k)) → Filled N f l (i + n) r′
+pub fill-part : (N : ℕ) (f : ℕ → ℕ) (l : List ℕ) (i : ℕ) (r w r′ : List ℕ) (n : ℕ) → Filled N f l i r → Placed r i w n r′ → i + n ≤ N
+    → ((k : ℕ) → k < n → getD w k 0 ≡ f (i + k)) → Filled N f l (i + n) r′
 fill-part N f l i r w r′ n F P h e = record {
   long = P .long ∙ F .long;
   in-reach = h;

@@ -145,7 +145,7 @@ pub done : {A : Type 0} (n : ℕ) (a b : A) → n ≡ 0 → unless n a b ≡ a
 done n a b e = ap (λ (k : ℕ). unless k a b) e
 
 -- sizes that fit, and what compression needs of them
-pub sizes-fit : (c b : ℕ) → sizesFit c b ≡ true → ((c ≡ 64) × (b ≡ 192)) ⊎ ((c ≡ 128) × (b ≡ 128))
+sizes-fit : (c b : ℕ) → sizesFit c b ≡ true → ((c ≡ 64) × (b ≡ 192)) ⊎ ((c ≡ 128) × (b ≡ 128))
 sizes-fit c b e = short (eqb c 64) (eqb b 192) (eqb c 128) (eqb b 128) refl refl refl refl e
   where
     long : (p q : Bool) → eqb c 128 ≡ p → eqb b 128 ≡ q → (p && q) ≡ true → ((c ≡ 64) × (b ≡ 192)) ⊎ ((c ≡ 128) × (b ≡ 128))
@@ -153,19 +153,20 @@ sizes-fit c b e = short (eqb c 64) (eqb b 192) (eqb c 128) (eqb b 128) refl refl
     long true false p q e = absurd (true≢false (sym e))
     long false q′ p q e = absurd (true≢false (sym e))
 
-    short : (p q r s : Bool) → eqb c 64 ≡ p → eqb b 192 ≡ q → eqb c 128 ≡ r → eqb b 128 ≡ s → (p && q || r && s) ≡ true → ((c ≡ 64) × (b ≡ 192)) ⊎ ((c ≡ 128) × (b ≡ 128))
+    short : (p q r s : Bool) → eqb c 64 ≡ p → eqb b 192 ≡ q → eqb c 128 ≡ r → eqb b 128 ≡ s → (p && q || r && s) ≡ true
+        → ((c ≡ 64) × (b ≡ 192)) ⊎ ((c ≡ 128) × (b ≡ 128))
     short true true r s p q u v e = inl (eqb-true c 64 p, eqb-true b 192 q)
     short true false r s p q u v e = long r s u v e
     short false q′ r s p q u v e = long r s u v e
 
-pub record CompressFit (chaining block counter salt : ℕ) : Type 0 where
-  pub salt-fits : salt ≡ 16
-  pub some : 0 < chaining
-  pub square-fits : chaining + block ≡ 256
-  pub parts-fit : 256 ≡ chaining * (256 / chaining)
-  pub counters-fit : counter + 16 * roundCount chaining ≤ 2 ^ 64
+record CompressFit (chaining block counter salt : ℕ) : Type 0 where
+  salt-fits : salt ≡ 16
+  some : 0 < chaining
+  square-fits : chaining + block ≡ 256
+  parts-fit : 256 ≡ chaining * (256 / chaining)
+  counters-fit : counter + 16 * roundCount chaining ≤ 2 ^ 64
 
-pub compress-fit : (chaining block counter salt : ℕ) → compressRefusal chaining block counter salt ≡ 0 → CompressFit chaining block counter salt
+compress-fit : (chaining block counter salt : ℕ) → compressRefusal chaining block counter salt ≡ 0 → CompressFit chaining block counter salt
 unfolding compressRefusal
 compress-fit chaining block counter salt e =
     let high = ltb (2 ^ 64 - 161) counter in
@@ -175,8 +176,10 @@ compress-fit chaining block counter salt e =
     let k : counter ≤ 2 ^ 64 - 161 = ltb-false (2 ^ 64 - 161) counter (c .0) in
     let s : salt ≡ 16 = eqb-true salt 16 (not-false (eqb salt 16) (a .0)) in
     ⊎-elim
-    (λ (p : (chaining ≡ 64) × (block ≡ 192)). subst (λ (n : ℕ). CompressFit n block counter salt) (sym (p .0)) (record { salt-fits = s; some = omega arith; square-fits = omega arith; parts-fit = refl; counters-fit = omega arith }))
-    (λ (p : (chaining ≡ 128) × (block ≡ 128)). subst (λ (n : ℕ). CompressFit n block counter salt) (sym (p .0)) (record { salt-fits = s; some = omega arith; square-fits = omega arith; parts-fit = refl; counters-fit = omega arith }))
+    (λ (p : (chaining ≡ 64) × (block ≡ 192)). subst (λ (n : ℕ). CompressFit n block counter salt) (sym (p .0))
+    (record { salt-fits = s; some = omega arith; square-fits = omega arith; parts-fit = refl; counters-fit = omega arith }))
+    (λ (p : (chaining ≡ 128) × (block ≡ 128)). subst (λ (n : ℕ). CompressFit n block counter salt) (sym (p .0))
+    (record { salt-fits = s; some = omega arith; square-fits = omega arith; parts-fit = refl; counters-fit = omega arith }))
     (sizes-fit chaining block (not-false (sizesFit chaining block) (b .0)))
 
 -- ---- what a refusal r that the code has means to it
@@ -203,7 +206,8 @@ module _ (square : List ℕ) (count counter : ℕ) (salt : List ℕ) (r : ℕ) (
   pub rounds-counters : counter + 16 * count ≤ 2 ^ 64
   rounds-counters = ⊎-elim (λ e. omega (arith, fit .counter-fits)) (λ e. omega (arith, fit .counter-fits)) (fit .count-fits)
 
-module _ (chaining block : List ℕ) (counter : ℕ) (salt : List ℕ) (r : ℕ) (e : r ≡ compressRefusal (length chaining) (length block) counter (length salt)) (none : r ≡ 0) where
+module _ (chaining block : List ℕ) (counter : ℕ) (salt : List ℕ) (r : ℕ) (e : r ≡ compressRefusal (length chaining) (length block) counter (length salt))
+    (none : r ≡ 0) where
   fits : CompressFit (length chaining) (length block) counter (length salt)
   fits = compress-fit (length chaining) (length block) counter (length salt) (sym e ∙ none)
 
@@ -233,7 +237,8 @@ module _ (chaining block : List ℕ) (counter : ℕ) (salt : List ℕ) (r : ℕ)
 -- the rounds f, forward or backward
 module _ (f : ℕ → (ℕ → List ℕ) → List ℕ → List ℕ → List ℕ) (square : List ℕ) (count counter : ℕ) (salt : List ℕ) (r : ℕ) where
   pub rounds-done : r ≡ roundsRefusal (length square) count counter (length salt) → r ≡ 0 → (x last : List ℕ) → x ≡ tab 16 (λ k. getD salt (0 + k) 0)
-      → last ≡ f count (keysFrom counter) x square → last ≡ unless (roundsRefusal (length square) count counter (length salt)) (f count (keysFrom counter) salt square) square
+      → last ≡ f count (keysFrom counter) x square
+      → last ≡ unless (roundsRefusal (length square) count counter (length salt)) (f count (keysFrom counter) salt square) square
   rounds-done e none x last s d =
       d
       ∙ ap (λ (y : List ℕ). f count (keysFrom counter) y square) (s ∙ sixteen-are salt (fit square count counter salt r e none .salt-fits))

@@ -6,7 +6,7 @@ use mathlib.Core.List.{List, _++_}
 use Prim.Native.Nat.{ℕ, _+_, _-_, _/_, _%_, _<_, _≤_}
 use native.Mathlib.Nat.{zero-add}
 use native.Mathlib.Omega.{arith}
-use borrow.Author.Tests.{eq-eqb, eqb-true, le-leb, le-ltb, leb-true, lt-leb, lt-ltb, ne-eqb, not-false, not-true}
+use borrow.Author.Tests.{eq-eqb, le-leb, le-ltb, leb-true, lt-leb, lt-ltb, ne-eqb, not-false, not-true}
 use lib.Dec.{leb}
 use lib.ListN.{drop, getD, length, length-append, length-drop, replicate, take, take-append-drop}
 use lib.Seq.{getD-drop, length-take-le, take-append-le}
@@ -109,7 +109,8 @@ module _ (s : Session) (piece : List ℕ) (a : Bool) (e : a ≡ isSession s) whe
     pub adds : length piece ≤ limit - s .taken → s .taken + length piece ≤ limit
     adds n = omega (arith, taken-most s a e holds)
 
-    pub added : (r : Session) → r ≡ addBytes s piece → length piece ≤ limit - s .taken → _≡_ {A = Answer} (record { refusal = 0; session = r }) (addAnswer s piece)
+    pub added : (r : Session) → r ≡ addBytes s piece → length piece ≤ limit - s .taken
+        → _≡_ {A = Answer} (record { refusal = 0; session = r }) (addAnswer s piece)
     unfolding addAnswer addRefusal
     added r d n = rw (is-one s a e holds, le-ltb limit (s .taken + length piece) (adds n), d)
 
@@ -129,7 +130,8 @@ module _ (h : ℕ) (salt : List ℕ) (a : Bool) (e : a ≡ admitted h) where
     unfolding openAnswer openRefusal
     open-2 l s b = rw (← e, not-false a holds, ne-eqb (length salt) 16 l, b)
 
-    pub open-0 : length salt ≡ 16 → (own v : List ℕ) → own ≡ tab 16 (λ k. getD salt (0 + k) 0) → v ≡ initial (chainingSize h) h ++ replicate (128 - chainingSize h) 0
+    pub open-0 : length salt ≡ 16 → (own v : List ℕ) → own ≡ tab 16 (λ k. getD salt (0 + k) 0)
+        → v ≡ initial (chainingSize h) h ++ replicate (128 - chainingSize h) 0
         → _≡_ {A = Answer} (record { refusal = 0; session = made h own v 0 (replicate 192 0) }) (openAnswer h salt)
     unfolding openAnswer openRefusal
     open-0 l own v o c = rw (← e, not-false a holds, eq-eqb (length salt) 16 l, o ∙ sixteen-are salt l, c)
@@ -142,7 +144,8 @@ unfolding sessionDigest
 cut s v l h e =
     let S = sizes (s .bits) in
     ap (take (s .bits / 8)) (sym (take-append-drop (chainingSize (s .bits)) v))
-    ∙ take-append-le (s .bits / 8) (take (chainingSize (s .bits)) v) (drop (chainingSize (s .bits)) v) (omega (arith, length-take-le (chainingSize (s .bits)) v (omega arith)))
+    ∙ take-append-le (s .bits / 8) (take (chainingSize (s .bits)) v) (drop (chainingSize (s .bits)) v)
+    (omega (arith, length-take-le (chainingSize (s .bits)) v (omega arith)))
     ∙ ap (take (s .bits / 8)) e
 
 -- bytes placed at the front of room
@@ -200,7 +203,8 @@ module _ (s : Session) (room : List ℕ) (a : Bool) (e : a ≡ isSession s) wher
         pub digest-fits : 0 + length (take (s .bits / 8) v) ≤ length room
         digest-fits = omega (arith, digest-long)
 
-        pub left-digest : (r : List ℕ) → Placed room 0 (take (s .bits / 8) v) (length (take (s .bits / 8) v)) r → take (chainingSize (s .bits)) v ≡ finalChaining s → r ≡ readLeaves s room
+        pub left-digest : (r : List ℕ) → Placed room 0 (take (s .bits / 8) v) (length (take (s .bits / 8) v)) r
+            → take (chainingSize (s .bits)) v ≡ finalChaining s → r ≡ readLeaves s room
         left-digest r P f =
             left-0 l r
             (placed-front room (take (s .bits / 8) v) r (s .bits / 8) (sym digest-long) l

@@ -14,8 +14,11 @@ use Rattle.aes_round.specs.Rounds.{aesRound, aesRoundBack}
 use Rattle.aes_round.proofs.Laws.Array.{array-bytes, array-ext, entry-array, entry-byte, is-array}
 use Rattle.aes_round.proofs.Laws.Bytes.{getD-tab, is-tab, tab-bytes}
 use Rattle.aes_round.proofs.Laws.Mixing.{backward-bytes, forward-bytes}
-use Rattle.aes_round.proofs.Laws.Rounds.{length-round, length-round-back, mix-columns-back-undone, mix-columns-bytes, mix-columns-undone, round-back-bytes, round-back-undone, round-bytes, round-undone, shift-back-bytes, shift-back-undone, shift-bytes, shift-undone}
-use Rattle.echo.specs.Square.{bigMixColumns, bigMixColumnsBack, bigRound, bigRoundBack, bigShiftRows, bigShiftRowsBack, bigSubWords, bigSubWordsBack, counterKey, keysFrom, rounds, roundsBack, word}
+use Rattle.aes_round.proofs.Laws.Rounds.{length-round, length-round-back, mix-columns-back-undone, mix-columns-bytes}
+use Rattle.aes_round.proofs.Laws.Rounds.{mix-columns-undone, round-back-bytes, round-back-undone}
+use Rattle.aes_round.proofs.Laws.Rounds.{round-bytes, round-undone, shift-back-bytes, shift-back-undone, shift-bytes, shift-undone}
+use Rattle.echo.specs.Square.{bigMixColumns, bigMixColumnsBack, bigRound, bigRoundBack, bigShiftRows, bigShiftRowsBack, bigSubWords}
+use Rattle.echo.specs.Square.{bigSubWordsBack, counterKey, keysFrom, rounds, roundsBack, word}
 
 -- the subkeys are words
 abbrev pub Keys : (ℕ → List ℕ) → Type 0
@@ -79,7 +82,8 @@ module _ (key : ℕ → List ℕ) (salt : List ℕ) (K : Keys key) (L : Bytes 16
   sub-words-back-undone : (s : List ℕ) → Bytes 256 s → bigSubWords key salt (bigSubWordsBack key salt s) ≡ s
   unfolding bigSubWords bigSubWordsBack
   sub-words-back-undone =
-      words-undone (λ i w. aesRoundBack (aesRoundBack w salt) (key i)) (λ i w. aesRound (aesRound w (key i)) salt) (λ i w. length-round-back _ (key i)) two-back-undone
+      words-undone (λ i w. aesRoundBack (aesRoundBack w salt) (key i)) (λ i w. aesRound (aesRound w (key i)) salt)
+      (λ i w. length-round-back _ (key i)) two-back-undone
 
   -- ---- BIG.Round
 
@@ -152,7 +156,8 @@ module _ (C : ℕ) (salt s₀ : List ℕ) where
   unfolding Ran rounds
   ran-none = refl
 
-  pub ran-more : (n : ℕ) (s a b c : List ℕ) → Ran n s → b ≡ bigShiftRows a → c ≡ bigMixColumns b → a ≡ bigSubWords (keysFrom (C + 16 * n)) salt s → Ran (n + 1) c
+  pub ran-more : (n : ℕ) (s a b c : List ℕ) → Ran n s → b ≡ bigShiftRows a → c ≡ bigMixColumns b → a ≡ bigSubWords (keysFrom (C + 16 * n)) salt s
+      → Ran (n + 1) c
   unfolding Ran rounds bigRound bigSubWords
   ran-more n s a b c R shift mix sub =
       mix

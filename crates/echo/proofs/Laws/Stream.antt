@@ -74,7 +74,8 @@ module _ (b : ℕ) (pos : 0 < b) where
   pub block-rest : (xs ys : List ℕ) (i : ℕ) → block b (xs ++ ys) (length xs / b + i) ≡ block b (drop (b * (length xs / b)) xs ++ ys) i
   unfolding block
   block-rest xs ys i =
-      rw (mul-add b (length xs / b) i, ← drop-drop (b * i) (b * (length xs / b)) (xs ++ ys), drop-append-le (b * (length xs / b)) xs ys (mul-div-le (length xs) b))
+      rw
+      (mul-add b (length xs / b) i, ← drop-drop (b * i) (b * (length xs / b)) (xs ++ ys), drop-append-le (b * (length xs / b)) xs ys (mul-div-le (length xs) b))
 
   -- the bytes behind the full blocks
   pub length-rest : (xs : List ℕ) → length (drop (b * (length xs / b)) xs) ≡ length xs % b
@@ -117,7 +118,8 @@ module _ (b : ℕ) (pos : 0 < b) where
       unfolding block
       stored-full room fits = ap (take b) (stored room fits) ∙ take-append-le b _ _ (simp (length-drop, length-append) (omega (arith, counter-full)))
 
-      pub nothing-waits : (room : ℕ) → replicate room 0 ≡ drop (b * (length (xs ++ x ∷ []) / b)) (xs ++ x ∷ []) ++ replicate (room - length (xs ++ x ∷ []) % b) 0
+      pub nothing-waits : (room : ℕ)
+          → replicate room 0 ≡ drop (b * (length (xs ++ x ∷ []) / b)) (xs ++ x ∷ []) ++ replicate (room - length (xs ++ x ∷ []) % b) 0
       nothing-waits room =
           let m : length (xs ++ x ∷ []) % b ≡ 0 = ap (λ (n : ℕ). n % b) (length-snoc xs x) ∙ mod-full b pos (length xs) h in
           let z : room - 0 ≡ room = omega arith in

@@ -50,11 +50,13 @@ module _ (square : List ℕ) (count counter : ℕ) (salt : List ℕ) (S : Bytes 
         ∙ rounds-back-undone (keysFrom counter) salt keys-of L16 count square S256
 
   pub undo-each-other :
-      (roundsBackLeave (roundsLeave square count counter salt) count counter salt ≡ square) × (roundsLeave (roundsBackLeave square count counter salt) count counter salt ≡ square)
+      (roundsBackLeave (roundsLeave square count counter salt) count counter salt ≡ square) ×
+      (roundsLeave (roundsBackLeave square count counter salt) count counter salt ≡ square)
   unfolding roundsLeave roundsBackLeave
   undo-each-other = by (refusal square) refl
     where
       by : (n : ℕ) → refusal square ≡ n
-          → (roundsBackLeave (roundsLeave square count counter salt) count counter salt ≡ square) × (roundsLeave (roundsBackLeave square count counter salt) count counter salt ≡ square)
+          → (roundsBackLeave (roundsLeave square count counter salt) count counter salt ≡ square)
+          × (roundsLeave (roundsBackLeave square count counter salt) count counter salt ≡ square)
       by zero e = (forth-and-back e, back-and-forth e)
       by (suc k) e = (rw (e, e) refl, rw (e, e) refl)

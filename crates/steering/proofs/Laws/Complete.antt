@@ -1,5 +1,5 @@
 -- Every list of records whose numbers fit their fields is what its table of at most 4096 bytes is read as. Assumes nothing.
-use mathlib.Core.Path.{_≡_, refl, sym, ap, _∙_, subst}
+use mathlib.Core.Path.{_≡_, refl, sym, ap, _∙_, subst, ap₂}
 use mathlib.Core.List.{List, [], _∷_, _++_, append-assoc, append-nil}
 use Prim.Native.Nat.{ℕ, zero, suc, _+_, _-_, _%_, _^_, _<_, _≤_}
 use native.Mathlib.Nat.{mod-eq-of-lt, pow-succ', suc-add, zero-add}
@@ -10,7 +10,7 @@ use lib.ListN.{drop, getD, length, length-append, take}
 use lib.Seq.{drop-at, drop-drop, getD-drop, take-all, take-at}
 use Rattle.steering.specs.Numbers.{bigEndian, bytesOf, numberAt}
 use Rattle.steering.specs.Parsing.{AllFit, Parsed, accepted, goOn, inFront, parse, parseFrom, refused, tableOf}
-use Rattle.steering.specs.Reading.{readAt, recordAt}
+use Rattle.steering.specs.Reading.{readAt}
 use Rattle.steering.specs.Records.{Fits, bodyLength, bodyOf, floorKind, kindOf, recordOf}
 use Rattle.steering.specs.declared.reading.Reading.{Reading}
 use Rattle.steering.specs.declared.reading.Reading.the-variants.{Found}
@@ -19,7 +19,7 @@ use Rattle.steering.specs.declared.records.Radio.the-variants.{High, Low
 use Rattle.steering.specs.declared.records.Record.{Record}
 use Rattle.steering.specs.declared.records.Record.the-variants.{Floor, Hold, Node, Note}
 use Rattle.steering.proofs.Laws.Numbers.{power-pos}
-use Rattle.steering.proofs.Laws.Reading.{at-end, at-record, whole}
+use Rattle.steering.proofs.Laws.Reading.{at-end, whole}
 
 -- ---- from a number to bytes and back
 
@@ -64,7 +64,9 @@ module _ (a b c d : ℕ) where
   fourth : d < 256 ^ 8 → numberAt 8 24 (bytesOf 8 a ++ (bytesOf 8 b ++ (bytesOf 8 c ++ bytesOf 8 d))) ≡ d
   fourth h =
       ap (λ (l : List ℕ). bigEndian (take 8 l))
-      (sym (drop-drop 8 16 (bytesOf 8 a ++ (bytesOf 8 b ++ (bytesOf 8 c ++ bytesOf 8 d)))) ∙ ap (drop 8) (behind-two (bytesOf 8 c ++ bytesOf 8 d)) ∙ drop-at (bytesOf 8 c) _ 8 (length-bytes 8 c))
+      (sym (drop-drop 8 16 (bytesOf 8 a ++ (bytesOf 8 b ++ (bytesOf 8 c ++ bytesOf 8 d))))
+      ∙ ap (drop 8) (behind-two (bytesOf 8 c ++ bytesOf 8 d))
+      ∙ drop-at (bytesOf 8 c) _ 8 (length-bytes 8 c))
       ∙ alone 8 d h
 
 record-again : (r : Record) → Fits r → recordOf (kindOf r) (bodyOf r) ≡ r
@@ -77,7 +79,8 @@ record-again (Note n) h =
     let b = n .second in
     let c = n .third in
     let d = n .fourth in
-    ap (recordOf 5) (append-assoc (bytesOf 8 a ++ bytesOf 8 b) (bytesOf 8 c) (bytesOf 8 d) ∙ append-assoc (bytesOf 8 a) (bytesOf 8 b) (bytesOf 8 c ++ bytesOf 8 d))
+    ap (recordOf 5)
+    (append-assoc (bytesOf 8 a ++ bytesOf 8 b) (bytesOf 8 c) (bytesOf 8 d) ∙ append-assoc (bytesOf 8 a) (bytesOf 8 b) (bytesOf 8 c ++ bytesOf 8 d))
     ∙ rw (number-back 8 a (bytesOf 8 b ++ (bytesOf 8 c ++ bytesOf 8 d)) (h .0), second a b c d (h .1), third a b c d (h .2), fourth a b c d (h .3)) refl
 
 floor-length : (q : Radio) (x : ℕ) → length (bytesOf 2 x) ≡ bodyLength (floorKind q)
@@ -145,11 +148,10 @@ module _ (p rest : List ℕ) (r : Record) where
 
   found-there : Fits r → length t ≤ 4096 → readAt t (length p) ≡ Found r (length p + 1 + length (bodyOf r))
   found-there f h =
-      at-record t (length p) (omega (arith, long)) h (λ e. omega (arith, long, e))
-      ∙ ap (recordAt t (length p)) kind-there
-      ∙ whole t (length p) (kindOf r) (length (bodyOf r)) (body-length r) (λ e. known r (sym (body-length r) ∙ e)) (omega (arith, long))
-      ∙ ap (λ (x : Record). Found x (length p + 1 + length (bodyOf r)))
-      (ap (recordOf (kindOf r)) (ap (take (length (bodyOf r))) past-kind ∙ take-at (bodyOf r) rest (length (bodyOf r)) refl) ∙ record-again r f)
+      let body : take (length (bodyOf r)) (drop (length p + 1) t) ≡ bodyOf r =
+      ap (take (length (bodyOf r))) past-kind ∙ take-at (bodyOf r) rest (length (bodyOf r)) refl in
+      sym (whole t (length p) (omega (arith, long)) h (λ e. omega (arith, long, e)) (length (bodyOf r)) (body-length r ∙ ap bodyLength (sym kind-there))
+      (λ e. known r (sym (body-length r) ∙ e)) (length (bodyOf r)) r (sym (ap₂ recordOf kind-there body ∙ record-again r f)) refl (omega (arith, long)))
 
 -- ---- whole tables
 
@@ -231,5 +233,5 @@ complete rs f h = subst (λ (u : List ℕ). parse u ≡ accepted rs) (append-nil
     whole =
         let T = parse-through rs [] f (omega (arith, long)) in
         T .1
-        ∙ ap (λ (x : Reading). allInFront rs (goOn x (parseFrom (T .0) u))) (at-end u (length (tableOf rs)) (omega (arith, long)) (omega (arith, long)) (sym long))
+        ∙ ap (λ (x : Reading). allInFront rs (goOn x (parseFrom (T .0) u))) (sym (at-end u (length (tableOf rs)) (omega (arith, long)) (omega (arith, long)) (sym long)))
         ∙ all-accepted rs

@@ -19,6 +19,7 @@ use Rattle.steering.specs.Numbers.{AreBytes, either}
 use Rattle.steering.specs.Parsing.{Parsed, accepted, bodies, countOf, goOn, inFront, parse, parseFrom, refused, tableOf}
 use Rattle.steering.specs.Reading.{readAt, recordAt}
 use Rattle.steering.specs.Records.{bodyLength, bodyOf}
+use Rattle.steering.specs.declared.counting.Counted.{Counted}
 use Rattle.steering.specs.declared.fingerprinting.Fingerprinted.{Fingerprinted}
 use Rattle.steering.specs.declared.reading.Reading.{Reading}
 use Rattle.steering.specs.declared.reading.Reading.the-variants.{End, Found, Refused}
@@ -121,7 +122,8 @@ module _ (salt t : List ℕ) (b : AreBytes t) where
       by (refused number place) p c z = absurd (omega arith)
 
 module _ (salt t : List ℕ) (at : ℕ) (s : Session) (W : Walked salt t at s) where
-  walk-next : (r : Record) (next : ℕ) → Found r next ≡ readAt t at → (answer : Answer) → answer ≡ addAnswer s (take (next - (at + 1)) (drop (at + 1) t)) → Stepped salt t next answer
+  walk-next : (r : Record) (next : ℕ) → Found r next ≡ readAt t at → (answer : Answer) → answer ≡ addAnswer s (take (next - (at + 1)) (drop (at + 1) t))
+      → Stepped salt t next answer
   walk-next r next e answer a = by (parseFrom (U .fuel) t next) refl (U .goes)
     where
       U : Unrolled t (Found r next) (W .rest)
@@ -136,7 +138,9 @@ module _ (salt t : List ℕ) (at : ℕ) (s : Session) (W : Walked salt t at s) w
       takes-it : _≡_ {A = Answer} answer (record { refusal = 0; session = addBytes (opened 256 salt) (W .done ++ piece) })
       takes-it =
           let H = found t at r next e in
-          a ∙ ap (λ (x : Session). addAnswer x piece) (W .state) ∙ takes 256 salt admitted-256 (W .done) piece (omega (arith, long, W .few, H .next-is, H .in-table, H .not-long))
+          a
+          ∙ ap (λ (x : Session). addAnswer x piece) (W .state)
+          ∙ takes 256 salt admitted-256 (W .done) piece (omega (arith, long, W .few, H .next-is, H .in-table, H .not-long))
 
       by : (y : Parsed) → parseFrom (U .fuel) t next ≡ y → inFront r y ≡ accepted (W .rest) → Stepped salt t next answer
       by (accepted more) f g =
@@ -180,22 +184,6 @@ module _ (salt t : List ℕ) (at : ℕ) (s : Session) (W : Walked salt t at s) w
 
 -- ---- the same of what the code has: what it read at a place, and the answer of the session
 
-module _ (t : List ℕ) (at : ℕ) (x : Reading) (r : Record) (next : ℕ) (f : x ≡ Found r next) (e : x ≡ readAt t at) where
-  step : (at + 1 ≤ next) × (next ≤ length t) × (length t ≤ 4096)
-  step = let H = found t at r next (sym f ∙ e) in omega arith
-
-  pub start-fits : at + 1 < 2 ^ 64
-  start-fits = let S = step in omega arith
-
-  pub start-before : at + 1 ≤ next
-  start-before = let S = step in omega arith
-
-  pub next-within : next ≤ length t
-  next-within = let S = step in omega arith
-
-  pub less-left : length t - next < length t - at
-  less-left = let S = step in omega arith
-
 module _ (salt t : List ℕ) (at : ℕ) (s : Session) (W : Walked salt t at s) (x : Reading) (e : x ≡ readAt t at) where
   module _ (r : Record) (next : ℕ) (f : x ≡ Found r next) (answer : Answer) (a : answer ≡ addAnswer s (take (next - (at + 1)) (drop (at + 1) t))) where
     pub goes-on : Walked salt t next (answer .session)
@@ -225,7 +213,7 @@ module _ (salt t room : List ℕ) (b : AreBytes t) (z : refusalOf (parse t) ≡ 
       by (refused number place) p c z = absurd (omega arith)
 
   -- the session of all bodies is read
-  pub read-all : 32 ≤ length room → (s : Session) → s ≡ joinedAnswer salt t .session
+  read-all : 32 ≤ length room → (s : Session) → s ≡ joinedAnswer salt t .session
       → (readAnswer s (length room) .refusal ≡ 0) × (readLeaves s room ≡ digestOf 256 salt (bodiesOf (parse t)) ++ drop 32 room)
   unfolding joinedAnswer
   read-all h s e =
@@ -235,51 +223,79 @@ module _ (salt t room : List ℕ) (b : AreBytes t) (z : refusalOf (parse t) ≡ 
 
 -- ---- the answers
 
-pub count-refusal : (q : Parsed) → countOf q .refusal ≡ refusalOf q
-count-refusal (accepted rs) = refl
-count-refusal (refused number place) = refl
-
-pub count-place : (q : Parsed) → countOf q .place ≡ placeOf q
-count-place (accepted rs) = refl
-count-place (refused number place) = refl
+count-fields : (q : Parsed) → (countOf q .refusal ≡ refusalOf q) × (countOf q .place ≡ placeOf q)
+count-fields (accepted rs) = (refl, refl)
+count-fields (refused number place) = (refl, refl)
 
 module _ (salt room : ℕ) (q : Parsed) where
-  pub print-2 : (salt ≡ 16 → ⊥) → fingerprintAnswer salt room q ≡ record { refusal = 2; place = 0 }
+  pub print-2 : (salt ≡ 16 → ⊥) → record { refusal = 2; place = 0 } ≡ fingerprintAnswer salt room q
   unfolding fingerprintAnswer
   print-2 l = rw (ne-eqb salt 16 l)
 
   module _ (l : salt ≡ 16) where
-    pub print-5 : room < 32 → fingerprintAnswer salt room q ≡ record { refusal = 5; place = 0 }
+    pub print-5 : room < 32 → record { refusal = 5; place = 0 } ≡ fingerprintAnswer salt room q
     unfolding fingerprintAnswer
     print-5 h = rw (eq-eqb salt 16 l, lt-ltb room 32 h)
 
-    pub print-table : 32 ≤ room → fingerprintAnswer salt room q ≡ record { refusal = refusalOf q; place = placeOf q }
+    pub print-table : 32 ≤ room → (k : Counted) → k ≡ countOf q → record { refusal = k .refusal; place = k .place } ≡ fingerprintAnswer salt room q
     unfolding fingerprintAnswer
-    print-table h = rw (eq-eqb salt 16 l, le-ltb room 32 h)
+    print-table h k e = rw (eq-eqb salt 16 l, le-ltb room 32 h, e, count-fields q .0, count-fields q .1)
 
 -- what holds where nothing is refused
-pub record Clean (salt room : ℕ) (q : Parsed) : Type 0 where
-  pub salt-fits : salt ≡ 16
-  pub room-fits : 32 ≤ room
-  pub is-accepted : refusalOf q ≡ 0
+record Clean (salt room : ℕ) (q : Parsed) : Type 0 where
+  salt-fits : salt ≡ 16
+  room-fits : 32 ≤ room
+  is-accepted : refusalOf q ≡ 0
 
-pub clean : (salt room : ℕ) (q : Parsed) → fingerprintAnswer salt room q .refusal ≡ 0 → Clean salt room q
+clean : (salt room : ℕ) (q : Parsed) → fingerprintAnswer salt room q .refusal ≡ 0 → Clean salt room q
 clean salt room q z = by (eqb salt 16) (ltb room 32) refl refl
   where
     by : (x y : Bool) → eqb salt 16 ≡ x → ltb room 32 ≡ y → Clean salt room q
-    by false y p r = let w : _≡_ {A = ℕ} 2 0 = sym (ap (λ (f : Fingerprinted). f .refusal) (print-2 salt room q (eqb-false salt 16 p))) ∙ z in absurd (omega arith)
+    by false y p r =
+        let w : _≡_ {A = ℕ} 2 0 = ap (λ (f : Fingerprinted). f .refusal) (print-2 salt room q (eqb-false salt 16 p)) ∙ z in
+        absurd (omega arith)
     by true true p r =
-        let w : _≡_ {A = ℕ} 5 0 = sym (ap (λ (f : Fingerprinted). f .refusal) (print-5 salt room q (eqb-true salt 16 p) (ltb-true room 32 r))) ∙ z in absurd (omega arith)
+        let w : _≡_ {A = ℕ} 5 0 = ap (λ (f : Fingerprinted). f .refusal) (print-5 salt room q (eqb-true salt 16 p) (ltb-true room 32 r)) ∙ z in
+        absurd (omega arith)
     by true false p r =
         let l = eqb-true salt 16 p in
         let h = ltb-false room 32 r in
-        record { salt-fits = l; room-fits = h; is-accepted = sym (ap (λ (f : Fingerprinted). f .refusal) (print-table salt room q l h)) ∙ z }
+        record {
+          salt-fits = l;
+          room-fits = h;
+          is-accepted = sym (count-fields q .0) ∙ ap (λ (f : Fingerprinted). f .refusal) (print-table salt room q l h (countOf q) refl) ∙ z;
+        }
 
-module _ (salt room : List ℕ) (q : Parsed) where
-  pub left-alone : (fingerprintAnswer (length salt) (length room) q .refusal ≡ 0 → ⊥) → room ≡ fingerprintLeaves salt q room
-  unfolding fingerprintLeaves
-  left-alone n = rw (ne-eqb _ 0 n)
+-- ---- what a fingerprint leaves, by the answer a that the code has
 
-  pub left-done : fingerprintAnswer (length salt) (length room) q .refusal ≡ 0 → digestOf 256 salt (bodiesOf q) ++ drop 32 room ≡ fingerprintLeaves salt q room
+module _ (salt t room : List ℕ) (a : Fingerprinted) (e : a ≡ fingerprintAnswer (length salt) (length room) (parse t)) where
+  pub left-alone : (a .refusal ≡ 0 → ⊥) → room ≡ fingerprintLeaves salt (parse t) room
   unfolding fingerprintLeaves
-  left-done z = rw (eq-eqb _ 0 z)
+  left-alone n = rw (← e, ne-eqb (a .refusal) 0 n)
+
+  module _ (z : a .refusal ≡ 0) where
+    fits : Clean (length salt) (length room) (parse t)
+    fits = clean (length salt) (length room) (parse t) (sym (ap (λ (f : Fingerprinted). f .refusal) e) ∙ z)
+
+    pub print-salt : length salt ≡ 16
+    print-salt = fits .salt-fits
+
+    pub print-accepted : refusalOf (parse t) ≡ 0
+    print-accepted = fits .is-accepted
+
+    -- the session j of all bodies, and what reading it answers
+    module _ (j : Answer) (joins : j ≡ joinedAnswer salt t) where
+      pub joins-all : (j .refusal ≡ 0 → ⊥) → ⊥
+      unfolding joinedAnswer
+      joins-all n = n (ap (λ (x : Answer). x .refusal) joins)
+
+      module _ (r : Answer) (reading : r ≡ readAnswer (j .session) (length room)) (b : AreBytes t) where
+        all : (readAnswer (j .session) (length room) .refusal ≡ 0) × (readLeaves (j .session) room ≡ digestOf 256 salt (bodiesOf (parse t)) ++ drop 32 room)
+        all = read-all salt t room b (fits .is-accepted) (fits .room-fits) (j .session) (ap (λ (x : Answer). x .session) joins)
+
+        pub reads-all : (r .refusal ≡ 0 → ⊥) → ⊥
+        reads-all n = n (ap (λ (x : Answer). x .refusal) reading ∙ all .0)
+
+        pub left-digest : (u : List ℕ) → u ≡ readLeaves (j .session) room → u ≡ fingerprintLeaves salt (parse t) room
+        unfolding fingerprintLeaves
+        left-digest u d = rw (← e, eq-eqb (a .refusal) 0 z) (d ∙ all .1)

@@ -12,14 +12,14 @@ use lib.ListN.{drop, getD, length, length-append, length-drop, length-take, take
 use lib.Seq.{drop-cons, drop-length, getD-append-add}
 use Rattle.steering.specs.Numbers.{AreBytes, bigEndian, either, numberAt}
 use Rattle.steering.specs.Parsing.{AllFit, Parsed, accepted, goOn, inFront, parse, parseFrom, refused, tableOf}
-use Rattle.steering.specs.Reading.{readAt, recordAt}
+use Rattle.steering.specs.Reading.{readAt}
 use Rattle.steering.specs.Records.{Fits, bodyLength, bodyOf, kindOf, recordOf}
 use Rattle.steering.specs.declared.reading.Reading.{Reading}
 use Rattle.steering.specs.declared.reading.Reading.the-variants.{End, Found, Refused}
 use Rattle.steering.specs.declared.records.Record.{Record}
 use Rattle.steering.proofs.Laws.Complete.{all-refused, allInFront, complete, parse-through}
 use Rattle.steering.proofs.Laws.Numbers.{below, bytes-drop, bytes-take}
-use Rattle.steering.proofs.Laws.Reading.{at-end, at-record, cut-short, ended, found, past-end, too-long, unknown-kind, whole}
+use Rattle.steering.proofs.Laws.Reading.{at-end, cut-short, ended, found, too-long, unknown-kind, whole}
 use Rattle.steering.proofs.Laws.Tables.{begins, there}
 
 -- ---- a record that was read fits its fields
@@ -65,26 +65,23 @@ module _ (t : List ℕ) (place : ℕ) (within : place ≤ length t) (short : len
       rest-long : length (drop (suc place) t) ≡ length t - (place + 1)
       rest-long = omega (arith, length-drop (suc place) t)
 
-      here : (place ≡ length t → ⊥) → Refused number at ≡ recordAt t place kind
-      here n = e ∙ at-record t place within short n
-
       in-record : (place ≡ length t → ⊥) → (x y : Bool) → eqb (bodyLength kind) 0 ≡ x → ltb (length t - (place + 1)) (bodyLength kind) ≡ y → Stop number at
       in-record n true y p q =
-          let z : Refused number at ≡ Refused 9 place = here n ∙ unknown-kind t place kind _ refl (eqb-true _ _ p) in
+          let z : Refused number at ≡ Refused 9 place = e ∙ sym (unknown-kind t place within short n _ refl (eqb-true _ _ p)) in
           record { inside = omega arith; at-kind = cc; why = inl ((cc), eqb-true _ _ p) }
       in-record n false true p q =
           let none = eqb-false (bodyLength kind) 0 p in
-          let z : Refused number at ≡ Refused 10 place = here n ∙ cut-short t place kind _ refl none (ltb-true _ _ q) in
           let few = ltb-true (length t - (place + 1)) (bodyLength kind) q in
+          let z : Refused number at ≡ Refused 10 place = e ∙ sym (cut-short t place within short n _ refl none few) in
           record { inside = omega arith; at-kind = cc; why = inr ((cc), omega arith, omega (arith, rest-long)) }
       in-record n false false p q =
-          let z = here n ∙ whole t place kind _ refl (eqb-false _ _ p) (ltb-false _ _ q) in
+          let z = e ∙ sym (whole t place within short n _ refl (eqb-false _ _ p) _ _ refl refl (ltb-false _ _ q)) in
           let w : _≡_ {A = ℕ} 0 1 = cc in
           absurd (omega arith)
 
       by : (x : Bool) → eqb place (length t) ≡ x → Stop number at
       by true p =
-          let z : Refused number at ≡ End = e ∙ at-end t place within short (eqb-true _ _ p) in
+          let z : Refused number at ≡ End = e ∙ sym (at-end t place within short (eqb-true _ _ p)) in
           let w : _≡_ {A = ℕ} 0 1 = cc in
           absurd (omega arith)
       by false p = in-record (eqb-false _ _ p) (eqb (bodyLength kind) 0) (ltb (length t - (place + 1)) (bodyLength kind)) refl refl
@@ -178,7 +175,7 @@ module _ (t : List ℕ) (b : AreBytes t) (short : length t ≤ 4096) where
 
 too-long-8 : (t : List ℕ) → 4096 < length t → parse t ≡ refused 8 0
 unfolding parseFrom
-too-long-8 t h = ap (λ (x : Reading). goOn x (parseFrom (length t) t)) (too-long t 0 (omega arith) h)
+too-long-8 t h = ap (λ (x : Reading). goOn x (parseFrom (length t) t)) (sym (too-long t 0 (omega arith) h))
 
 -- a byte that is refused behind some records
 module _ (rs : List Record) (kind : ℕ) (rest : List ℕ) (f : AllFit rs) where
@@ -194,18 +191,22 @@ module _ (rs : List Record) (kind : ℕ) (rest : List ℕ) (f : AllFit rs) where
   kind-there : getD t at 0 ≡ kind
   kind-there = ap (λ (k : ℕ). getD t k 0) (omega arith) ∙ getD-append-add (tableOf rs) (kind ∷ rest) 0 0
 
-  stops : (number : ℕ) → length t ≤ 4096 → recordAt t at kind ≡ Refused number at → parse t ≡ refused number at
+  inside : at ≡ length t → ⊥
+  inside e = omega (arith, long, e)
+
+  stops : (number : ℕ) → length t ≤ 4096 → Refused number at ≡ readAt t at → parse t ≡ refused number at
   unfolding parseFrom
   stops number h e =
       let T = parse-through rs (kind ∷ rest) f h in
-      let there = at-record t at (omega (arith, long)) h (λ p. omega (arith, long, p)) ∙ ap (recordAt t at) kind-there ∙ e in
-      T .1 ∙ ap (λ (x : Reading). allInFront rs (goOn x (parseFrom (T .0) t))) there ∙ all-refused rs number at
+      T .1 ∙ ap (λ (x : Reading). allInFront rs (goOn x (parseFrom (T .0) t))) (sym e) ∙ all-refused rs number at
 
   stops-9 : bodyLength kind ≡ 0 → length t ≤ 4096 → parse t ≡ refused 9 at
-  stops-9 z h = stops 9 h (unknown-kind t at kind _ refl z)
+  stops-9 z h = stops 9 h (unknown-kind t at (omega (arith, long)) h inside _ refl (ap bodyLength kind-there ∙ z))
 
   stops-10 : 0 < bodyLength kind → length rest < bodyLength kind → length t ≤ 4096 → parse t ≡ refused 10 at
-  stops-10 k few h = stops 10 h (cut-short t at kind _ refl (λ z. omega arith) (omega (arith, long)))
+  stops-10 k few h =
+      let same = ap bodyLength kind-there in
+      stops 10 h (cut-short t at (omega (arith, long)) h inside _ refl (λ z. omega (arith, same)) (omega (arith, long, same)))
 
 -- the bytes of some records and then a byte that stops there, with a reason that its kind and the bytes behind it give
 abbrev pub StopsAt : List ℕ → ℕ → (ℕ → List ℕ → Type 0) → Type 0

@@ -2,7 +2,7 @@
 use mathlib.Core.Path.{_≡_, refl, sym, ap, _∙_}
 use mathlib.Core.Bool.{Bool, true, false, true≢false}
 use mathlib.Core.List.{List, _++_}
-use Prim.Native.Nat.{ℕ, _<_}
+use Prim.Native.Nat.{ℕ, _<_, _≤_}
 use native.Mathlib.Omega.{arith}
 use borrow.Author.Tests.{eqb-false, eqb-true, ne-eqb}
 use lib.Dec.{eqb}
@@ -16,28 +16,28 @@ use Rattle.steering.specs.declared.records.Record.the-variants.{Floor, H
 use Rattle.steering.proofs.Laws.Numbers.{bytes-at, parts}
 
 module _ (kind : ℕ) where
-  pub long-1 : kind ≡ 1 → bodyLength kind ≡ 6
+  pub long-1 : kind ≡ 1 → 6 ≡ bodyLength kind
   unfolding bodyLength
-  long-1 e = ap bodyLength e
+  long-1 e = ap bodyLength (sym e)
 
-  pub long-2 : kind ≡ 2 → bodyLength kind ≡ 2
+  pub long-2 : kind ≡ 2 → 2 ≡ bodyLength kind
   unfolding bodyLength
-  long-2 e = ap bodyLength e
+  long-2 e = ap bodyLength (sym e)
 
-  pub long-3 : kind ≡ 3 → bodyLength kind ≡ 2
+  pub long-3 : kind ≡ 3 → 2 ≡ bodyLength kind
   unfolding bodyLength
-  long-3 e = ap bodyLength e
+  long-3 e = ap bodyLength (sym e)
 
-  pub long-4 : kind ≡ 4 → bodyLength kind ≡ 4
+  pub long-4 : kind ≡ 4 → 4 ≡ bodyLength kind
   unfolding bodyLength
-  long-4 e = ap bodyLength e
+  long-4 e = ap bodyLength (sym e)
 
-  pub long-5 : kind ≡ 5 → bodyLength kind ≡ 32
+  pub long-5 : kind ≡ 5 → 32 ≡ bodyLength kind
   unfolding bodyLength
-  long-5 e = ap bodyLength e
+  long-5 e = ap bodyLength (sym e)
 
   module _ (a : kind ≡ 1 → ⊥) (b : kind ≡ 2 → ⊥) (c : kind ≡ 3 → ⊥) (d : kind ≡ 4 → ⊥) where
-    pub unknown : (kind ≡ 5 → ⊥) → bodyLength kind ≡ 0
+    pub unknown : (kind ≡ 5 → ⊥) → 0 ≡ bodyLength kind
     unfolding bodyLength
     unknown e = simp (ne-eqb kind 1 a, ne-eqb kind 2 b, ne-eqb kind 3 c, ne-eqb kind 4 d, ne-eqb kind 5 e)
 
@@ -46,7 +46,37 @@ module _ (kind : ℕ) where
       where
         by : (t : Bool) → eqb kind 5 ≡ t → kind ≡ 5
         by true q = eqb-true kind 5 q
-        by false q = let z : bodyLength kind ≡ 0 = unknown (λ e. let w : eqb 5 5 ≡ false = ap (λ (k : ℕ). eqb k 5) (sym e) ∙ q in absurd (true≢false w)) in absurd (omega arith)
+        by false q =
+            let z : 0 ≡ bodyLength kind = unknown (λ e. let w : eqb 5 5 ≡ false = ap (λ (k : ℕ). eqb k 5) (sym e) ∙ q in absurd (true≢false w)) in
+            absurd (omega arith)
+
+-- ---- the record of each kind, by the numbers that were read out of its body
+
+module _ (kind : ℕ) (body : List ℕ) where
+  pub node-is : (a : ℕ) → a ≡ numberAt 6 0 body → kind ≡ 1 → Node (record { address = a }) ≡ recordOf kind body
+  unfolding recordOf
+  node-is a e k = rw (e, k)
+
+  pub low-is : (a : ℕ) → a ≡ numberAt 2 0 body → kind ≡ 2 → Floor (record { radio = Low; level = a }) ≡ recordOf kind body
+  unfolding recordOf
+  low-is a e k = rw (e, k)
+
+  pub high-is : (a : ℕ) → a ≡ numberAt 2 0 body → kind ≡ 3 → Floor (record { radio = High; level = a }) ≡ recordOf kind body
+  unfolding recordOf
+  high-is a e k = rw (e, k)
+
+  pub hold-is : (a : ℕ) → a ≡ numberAt 4 0 body → kind ≡ 4 → Hold (record { time = a }) ≡ recordOf kind body
+  unfolding recordOf
+  hold-is a e k = rw (e, k)
+
+  pub note-is : (a b c d : ℕ) → a ≡ numberAt 8 0 body → b ≡ numberAt 8 8 body → c ≡ numberAt 8 16 body → d ≡ numberAt 8 24 body → kind ≡ 5
+      → Note (record { first = a; second = b; third = c; fourth = d }) ≡ recordOf kind body
+  unfolding recordOf
+  note-is a b c d e f g h k = rw (e, f, g, h, k)
+
+  -- a note has 32 bytes
+  pub note-reaches : (m : ℕ) → length body ≡ bodyLength kind → kind ≡ 5 → m ≤ 32 → m ≤ length body
+  note-reaches m l k h = omega (arith, long-5 kind k)
 
 -- a record of a kind and a body
 pub record Has (r : Record) (kind : ℕ) (body : List ℕ) : Type 0 where
@@ -55,41 +85,36 @@ pub record Has (r : Record) (kind : ℕ) (body : List ℕ) : Type 0 where
 
 module _ (kind : ℕ) (body : List ℕ) (long : length body ≡ bodyLength kind) (b : AreBytes body) where
   -- all of the body is one number
-  only : (n : ℕ) → bodyLength kind ≡ n → bytesOf n (numberAt n 0 body) ≡ body
+  only : (n : ℕ) → n ≡ bodyLength kind → bytesOf n (numberAt n 0 body) ≡ body
   only n e = bytes-at n 0 body (omega arith) b ∙ take-all n body (omega arith)
 
   node : kind ≡ 1 → Has (recordOf kind body) kind body
-  unfolding recordOf
   node k =
-      let e : recordOf kind body ≡ Node (record { address = numberAt 6 0 body }) = ap (λ (n : ℕ). recordOf n body) k in
+      let e = sym (node-is kind body _ refl k) in
       record { kind-is = ap kindOf e ∙ sym k; body-is = ap bodyOf e ∙ only 6 (long-1 kind k) }
 
   low-floor : kind ≡ 2 → Has (recordOf kind body) kind body
-  unfolding recordOf
   low-floor k =
-      let e : recordOf kind body ≡ Floor (record { radio = Low; level = numberAt 2 0 body }) = ap (λ (n : ℕ). recordOf n body) k in
+      let e = sym (low-is kind body _ refl k) in
       record { kind-is = ap kindOf e ∙ sym k; body-is = ap bodyOf e ∙ only 2 (long-2 kind k) }
 
   high-floor : kind ≡ 3 → Has (recordOf kind body) kind body
-  unfolding recordOf
   high-floor k =
-      let e : recordOf kind body ≡ Floor (record { radio = High; level = numberAt 2 0 body }) = ap (λ (n : ℕ). recordOf n body) k in
+      let e = sym (high-is kind body _ refl k) in
       record { kind-is = ap kindOf e ∙ sym k; body-is = ap bodyOf e ∙ only 2 (long-3 kind k) }
 
   hold : kind ≡ 4 → Has (recordOf kind body) kind body
-  unfolding recordOf
   hold k =
-      let e : recordOf kind body ≡ Hold (record { time = numberAt 4 0 body }) = ap (λ (n : ℕ). recordOf n body) k in
+      let e = sym (hold-is kind body _ refl k) in
       record { kind-is = ap kindOf e ∙ sym k; body-is = ap bodyOf e ∙ only 4 (long-4 kind k) }
 
   note : kind ≡ 5 → Has (recordOf kind body) kind body
-  unfolding recordOf
   note k =
-      let l : length body ≡ 32 = long ∙ long-5 kind k in
-      let e : recordOf kind body ≡ Note (record { first = numberAt 8 0 body; second = numberAt 8 8 body; third = numberAt 8 16 body; fourth = numberAt 8 24 body }) =
-      ap (λ (n : ℕ). recordOf n body) k in
+      let l : length body ≡ 32 = long ∙ sym (long-5 kind k) in
+      let e = sym (note-is kind body _ _ _ _ refl refl refl refl k) in
       let four : bodyOf (recordOf kind body) ≡ take 8 (drop 0 body) ++ take 8 (drop 8 body) ++ take 8 (drop 16 body) ++ take 8 (drop 24 body) =
-      ap bodyOf e ∙ rw (bytes-at 8 0 body (omega arith) b, bytes-at 8 8 body (omega arith) b, bytes-at 8 16 body (omega arith) b, bytes-at 8 24 body (omega arith) b) in
+      ap bodyOf e
+      ∙ rw (bytes-at 8 0 body (omega arith) b, bytes-at 8 8 body (omega arith) b, bytes-at 8 16 body (omega arith) b, bytes-at 8 24 body (omega arith) b) in
       let whole =
       ap (λ (l : List ℕ). l ++ take 8 (drop 16 body) ++ take 8 (drop 24 body)) (parts 0 body 8 8)
       ∙ ap (λ (l : List ℕ). l ++ take 8 (drop 24 body)) (parts 0 body 16 8)

@@ -23,7 +23,8 @@ module _ (t : List ℕ) (b : AreBytes t) where
       let kind = getD t place 0 in
       let n : next - (place + 1) ≡ bodyLength kind = omega (arith, H .next-is) in
       let body = take (bodyLength kind) (drop (place + 1) t) in
-      let long : length body ≡ bodyLength kind = length-take-le (bodyLength kind) (drop (place + 1) t) (omega (arith, length-drop (place + 1) t, H .in-table)) in
+      let long : length body ≡ bodyLength kind =
+      length-take-le (bodyLength kind) (drop (place + 1) t) (omega (arith, length-drop (place + 1) t, H .in-table)) in
       let R = read-back kind body long (bytes-take (bodyLength kind) (drop (place + 1) t) (bytes-drop (place + 1) t b)) (H .known) in
       rw (n, H .record-is) R
 

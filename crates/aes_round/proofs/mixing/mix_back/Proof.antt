@@ -68,7 +68,7 @@ product-requires-4 c κs = search needs
 
 returns : tie.Need-returns
 unfolding mixColumn tab backward
-returns c = four (c .before .before .before .product .ensures) (c .before .before .product2 .ensures) (c .before .product3 .ensures) (c .product4 .ensures)
+returns c = search four
 
 pub mix-back-spec : {M : Type 1} → statement M
 mix-back-spec =

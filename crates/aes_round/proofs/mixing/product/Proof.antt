@@ -1,5 +1,4 @@
 -- `product` meets its contract: each product is one by `times`. Assumes nothing.
-use mathlib.Core.Path.{ap₂}
 use borrow.Author.Needs.{needs}
 use Rattle.aes_round.specs.Bytes.{xor}
 use Rattle.aes_round.specs.Mixing.{dot}
@@ -32,7 +31,7 @@ times-requires-4 c κs = search needs
 
 returns : tie.Need-returns
 unfolding dot xor
-returns c = ap₂ xor (ap₂ xor (c .before .before .before .times .ensures) (c .before .before .times2 .ensures)) (ap₂ xor (c .before .times3 .ensures) (c .times4 .ensures))
+returns c = cc
 
 pub product-spec : {M : Type 1} → statement M
 product-spec =

@@ -1,7 +1,5 @@
 -- `mix_columns` meets its contract: each column is `mix`'s. Assumes nothing.
-use mathlib.Core.Path.{_∙_, ap}
 use borrow.Author.Needs.{needs}
-use Rattle.aes_round.specs.Mixing.{forward, mixColumn}
 use Rattle.aes_round.proofs.Laws.Rounds.{mix-columns-are}
 use Rattle.aes_round.proofs.rounds.mix_columns.Statement.{statement}
 use Rattle.aes_round.proofs.rounds.mix_columns.Tie as tie
@@ -34,7 +32,7 @@ word-of-requires : tie.Need-word-of-requires
 word-of-requires c κs = search needs
 
 returns : tie.Need-returns
-returns c = c .word-of .ensures ∙ mix-columns-are forward _ _ _ _ _ (c .before .before .before .before .before .before .before .mix .ensures ∙ ap (mixColumn forward) (c .before .before .before .before .before .before .before .before .column .ensures)) (c .before .before .before .before .before .mix2 .ensures ∙ ap (mixColumn forward) (c .before .before .before .before .before .before .column2 .ensures)) (c .before .before .before .mix3 .ensures ∙ ap (mixColumn forward) (c .before .before .before .before .column3 .ensures)) (c .before .mix4 .ensures ∙ ap (mixColumn forward) (c .before .before .column4 .ensures))
+returns c = search mix-columns-are
 
 pub mix-columns-spec : {M : Type 1} → statement M
 mix-columns-spec =

@@ -1,9 +1,7 @@
 -- `two_rounds` meets its contract: two rounds by one table. Assumes nothing.
-use mathlib.Core.List.{List}
-use mathlib.Core.Path.{_∙_, ap}
-use Prim.Native.Nat.{ℕ}
 use borrow.Author.Needs.{needs}
 use Rattle.aes_round.specs.Rounds.{aesRound}
+use Rattle.aes_round.proofs.Laws.Rounds.{twice}
 use Rattle.aes_round.proofs.rounds.two_rounds.Statement.{statement}
 use Rattle.aes_round.proofs.rounds.two_rounds.Tie as tie
 
@@ -17,7 +15,7 @@ round-by-requires-2 : tie.Need-round-by-requires-2
 round-by-requires-2 c κs = search needs
 
 returns : tie.Need-returns
-returns c = c .round-by2 .ensures ∙ ap (λ (x : List ℕ). aesRound x (c .before .before .before .before .before .args .l)) (c .before .before .round-by .ensures)
+returns c = search (twice aesRound)
 
 pub two-rounds-spec : {M : Type 1} → statement M
 two-rounds-spec =

@@ -1,9 +1,7 @@
 -- `two_rounds_back` meets its contract: two rounds back by one table. Assumes nothing.
-use mathlib.Core.List.{List}
-use mathlib.Core.Path.{_∙_, ap}
-use Prim.Native.Nat.{ℕ}
 use borrow.Author.Needs.{needs}
 use Rattle.aes_round.specs.Rounds.{aesRoundBack}
+use Rattle.aes_round.proofs.Laws.Rounds.{twice}
 use Rattle.aes_round.proofs.rounds.two_rounds_back.Statement.{statement}
 use Rattle.aes_round.proofs.rounds.two_rounds_back.Tie as tie
 
@@ -17,7 +15,7 @@ round-back-by-requires-2 : tie.Need-round-back-by-requires-2
 round-back-by-requires-2 c κs = search needs
 
 returns : tie.Need-returns
-returns c = c .round-back-by2 .ensures ∙ ap (λ (x : List ℕ). aesRoundBack x (c .before .before .before .before .before .args .k)) (c .before .before .round-back-by .ensures)
+returns c = search (twice aesRoundBack)
 
 pub two-rounds-back-spec : {M : Type 1} → statement M
 two-rounds-back-spec =

@@ -2,7 +2,8 @@
 use Prim.Native.Nat.{_-_}
 use lib.ListN.{length}
 use borrow.Author.Needs.{needs}
-use Rattle.steering.proofs.Laws.Fingerprint.{Walked, ends, goes-on, goes-through, less-left, next-within, no-stop, start-before, start-fits, walk-start}
+use Rattle.steering.proofs.Laws.Fingerprint.{Walked, ends, goes-on, goes-through, no-stop, walk-start}
+use Rattle.steering.proofs.Laws.Reading.{less-left, next-within, start-before, start-fits}
 use Rattle.steering.proofs.fingerprinting.joined_bodies.Statement.{statement}
 use Rattle.steering.proofs.fingerprinting.joined_bodies.Tie as tie
 

@@ -1,6 +1,4 @@
 -- `four` meets its contract: the number is read in two parts. Assumes nothing.
-use mathlib.Core.Path.{_∙_, ap₂}
-use Prim.Native.Nat.{_*_, _+_, _^_, ℕ}
 use borrow.Author.Needs.{needs}
 use Rattle.steering.proofs.Laws.Numbers.{joined}
 use Rattle.steering.proofs.numbers.four.Statement.{statement}
@@ -28,9 +26,7 @@ add-result : tie.Need-add-result
 add-result c = search needs
 
 returns : tie.Need-returns
-returns c =
-    let A = c .before .before .before .args in
-    ap₂ (λ (h l : ℕ). h * 256 ^ 2 + l) (c .before .two .ensures) (c .two2 .ensures) ∙ joined (A .at) (A .bytes .now) 2 2 (c .before .before .before .pre)
+returns c = search (joined 2 2)
 
 pub four-spec : {M : Type 1} → statement M
 four-spec =

@@ -1,8 +1,6 @@
 -- `two` meets its contract. Assumes nothing.
-use Prim.Native.Nat.{_+_}
-use native.Mathlib.Omega.{arith}
 use borrow.Author.Needs.{needs}
-use Rattle.steering.proofs.Laws.Numbers.{two-bytes}
+use Rattle.steering.proofs.Laws.Numbers.{both-fit, byte-fits, high-fits, two-bytes}
 use Rattle.steering.proofs.numbers.two.Statement.{statement}
 use Rattle.steering.proofs.numbers.two.Tie as tie
 
@@ -16,19 +14,19 @@ shared-slice-read-low : tie.Need-shared-slice-read-low
 shared-slice-read-low c = search needs
 
 cast-result : tie.Need-cast-result
-cast-result c = omega (arith, c .shared-slice-known2 .given (c .before .before .args .at), c .shared-slice-known2 .given (c .before .before .args .at + 1))
+cast-result c = search (byte-fits, c .shared-slice-known2 .given)
 
 mul-result : tie.Need-mul-result
-mul-result c = omega (arith, c .shared-slice-known2 .given (c .before .before .args .at), c .shared-slice-known2 .given (c .before .before .args .at + 1))
+mul-result c = search (high-fits, c .shared-slice-known2 .given)
 
 cast-result-2 : tie.Need-cast-result-2
-cast-result-2 c = omega (arith, c .shared-slice-known2 .given (c .before .before .args .at), c .shared-slice-known2 .given (c .before .before .args .at + 1))
+cast-result-2 c = search (byte-fits, c .shared-slice-known2 .given)
 
 add-result : tie.Need-add-result
-add-result c = omega (arith, c .shared-slice-known2 .given (c .before .before .args .at), c .shared-slice-known2 .given (c .before .before .args .at + 1))
+add-result c = search (both-fit, c .shared-slice-known2 .given)
 
 returns : tie.Need-returns
-returns c = two-bytes (c .before .before .args .at) (c .before .before .args .bytes .now) (c .before .before .pre)
+returns c = search two-bytes
 
 pub two-spec : {M : Type 1} → statement M
 two-spec =

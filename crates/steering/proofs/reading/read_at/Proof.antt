@@ -1,13 +1,8 @@
 -- `read_at` meets its contract: at each return the tests that led there say which case of `readAt` holds. Assumes nothing.
-use mathlib.Core.Path.{_∙_, _≡_, ap, sym}
-use Prim.Native.Nat.{_+_, ℕ}
+use mathlib.Core.Path.{_∙_}
 use native.Mathlib.Nat.{add-sub-cancel-left}
-use lib.ListN.{drop, getD, take}
 use borrow.Author.Needs.{needs}
-use Rattle.steering.specs.Records.{recordOf}
-use Rattle.steering.specs.declared.reading.Reading.the-variants.{Found}
-use Rattle.steering.specs.declared.records.Record.{Record}
-use Rattle.steering.proofs.Laws.Reading.{at-end, at-record, cut-short, past-end, too-long, unknown-kind, whole}
+use Rattle.steering.proofs.Laws.Reading.{at-end, cut-short, past-end, too-long, unknown-kind, whole}
 use Rattle.steering.proofs.reading.read_at.Statement.{statement}
 use Rattle.steering.proofs.reading.read_at.Tie as tie
 
@@ -15,16 +10,16 @@ refused-requires : tie.Need-refused-requires
 refused-requires c κs = search needs
 
 returns : tie.Need-returns
-returns c = c .refused .ensures ∙ sym (past-end _ _ (c .before .if1 .taken))
+returns c = search (_∙_, past-end)
 
 refused-requires-2 : tie.Need-refused-requires-2
 refused-requires-2 c κs = search needs
 
 returns-2 : tie.Need-returns-2
-returns-2 c = c .refused2 .ensures ∙ sym (too-long _ _ (c .before .before .if1 .left) (c .before .if2 .taken))
+returns-2 c = search (_∙_, too-long)
 
 returns-3 : tie.Need-returns-3
-returns-3 c = sym (at-end _ _ (c .before .before .if1 .left) (c .before .if2 .left) (c .if3 .taken))
+returns-3 c = search at-end
 
 shared-slice-read-kind : tie.Need-shared-slice-read-kind
 shared-slice-read-kind c = search needs
@@ -36,12 +31,7 @@ refused-requires-3 : tie.Need-refused-requires-3
 refused-requires-3 c κs = search needs
 
 returns-4 : tie.Need-returns-4
-returns-4 c =
-    let t = c .before .before .before .before .before .before .before .before .args .table .now in
-    let p = c .before .before .before .before .before .before .before .before .args .place in
-    c .refused3 .ensures
-    ∙ sym (at-record t p (c .before .before .before .before .before .before .if1 .left) (c .before .before .before .before .before .if2 .left) (c .before .before .before .before .if3 .left)
-    ∙ unknown-kind t p (getD t p 0) _ (c .before .before .body-length .ensures) (c .before .if4 .taken))
+returns-4 c = search (_∙_, unknown-kind)
 
 add-at : tie.Need-add-at
 add-at c = search needs
@@ -53,12 +43,7 @@ refused-requires-4 : tie.Need-refused-requires-4
 refused-requires-4 c κs = search needs
 
 returns-5 : tie.Need-returns-5
-returns-5 c =
-    let t = c .before .before .before .before .before .before .before .before .before .args .table .now in
-    let p = c .before .before .before .before .before .before .before .before .before .args .place in
-    c .refused4 .ensures
-    ∙ sym (at-record t p (c .before .before .before .before .before .before .before .if1 .left) (c .before .before .before .before .before .before .if2 .left) (c .before .before .before .before .before .if3 .left)
-    ∙ cut-short t p (getD t p 0) _ (c .before .before .before .body-length .ensures) (c .before .before .if4 .left) (c .before .if5 .taken))
+returns-5 c = search (_∙_, cut-short)
 
 add-next : tie.Need-add-next
 add-next c = search needs
@@ -76,15 +61,7 @@ record-of-requires : tie.Need-record-of-requires
 record-of-requires c κs = search needs
 
 returns-6 : tie.Need-returns-6
-returns-6 c =
-    let t = c .before .before .before .before .before .before .before .before .before .before .args .table .now in
-    let p = c .before .before .before .before .before .before .before .before .before .before .args .place in
-    let n = c .before .before .before .before .body-length .result in
-    let r : c .record-of .result ≡ recordOf (getD t p 0) (take n (drop (p + 1) t)) =
-    c .record-of .ensures ∙ ap (λ (k : ℕ). recordOf (getD t p 0) (take k (drop (p + 1) t))) (add-sub-cancel-left (p + 1) n) in
-    ap (λ (x : Record). Found x (p + 1 + n)) r
-    ∙ sym (at-record t p (c .before .before .before .before .before .before .before .before .if1 .left) (c .before .before .before .before .before .before .before .if2 .left) (c .before .before .before .before .before .before .if3 .left)
-    ∙ whole t p (getD t p 0) n (c .before .before .before .before .body-length .ensures) (c .before .before .before .if4 .left) (c .before .before .if5 .left))
+returns-6 c = search (whole, add-sub-cancel-left)
 
 pub read-at-spec : {M : Type 1} → statement M
 read-at-spec =

@@ -3,18 +3,29 @@ use mathlib.Core.Path.{_≡_, refl, sym, ap, ap₂, _∙_}
 use mathlib.Core.Logic.{⊎-elim}
 use mathlib.Core.List.{List, _++_}
 use Prim.Native.Nat.{ℕ, zero, suc, _+_, _*_, _/_, _-_, _^_, _<_, _≤_}
-use native.Mathlib.Nat.{add-comm, mul-div-cancel-left, mul-le-mul-left, mul-suc, mul-zero, not-suc-le-zero, zero-add}
+use native.Mathlib.Nat.{add-comm, le-refl, mul-div-cancel-left, mul-le-mul-left, mul-suc, mul-zero, not-suc-le-zero, zero-add}
 use native.Mathlib.Numerals.{add-one}
 use native.Mathlib.Omega.{arith}
+use lib.Bits.{bitXor}
 use lib.ListN.{drop, getD, length, length-append, take}
 use lib.Seq.{getD-drop, getD-take}
 use Rattle.aes_round.specs.Bytes.{tab, xor, xorBytes}
 use Rattle.aes_round.proofs.Laws.Bytes.{getD-tab, length-tab, lt-or-le, same-list, tab-ext}
-use Rattle.aes_round.proofs.Laws.Xor.{getD-xor, length-xor, xor-assoc, xor-zero-l, xor-zero-r}
+use Rattle.aes_round.proofs.Laws.Fill.{Filled, fill-all}
+use Rattle.aes_round.proofs.Laws.Xor.{code-xor, getD-xor, length-xor, xor-assoc, xor-is-tab, xor-zero-l, xor-zero-r}
 use Rattle.echo.specs.Compression.{bigFinal, compress, fold, xorSum}
 use Rattle.echo.specs.Placed.{Placed}
 use Rattle.echo.specs.Square.{rounds}
 use Rattle.echo.proofs.Laws.Joined.{first-part, second-part}
+
+-- ---- the loop that xors a list into another
+
+-- the element that comes next is still the old one
+pub xor-old : (n k x : ℕ) (f : ℕ → ℕ) (l r : List ℕ) → Filled n f l k r → bitXor (getD r k 0) x ≡ xor (getD l k 0) x
+xor-old n k x f l r F = code-xor (getD r k 0) x ∙ ap (λ (y : ℕ). xor y x) (F .rest k (le-refl k))
+
+pub xor-all : (n k : ℕ) (l m r : List ℕ) → Filled n (λ j. xor (getD l j 0) (getD m j 0)) l k r → n ≡ length l → n ≤ k → r ≡ xorBytes (length l) l m
+xor-all n k l m r F e h = fill-all n _ l k r F h ∙ xor-is-tab n l m ∙ ap (λ (i : ℕ). xorBytes i l m) e
 
 -- ---- the loop over parts
 

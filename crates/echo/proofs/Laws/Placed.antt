@@ -6,7 +6,7 @@ use Prim.Native.Nat.{ℕ, _+_, _-_, _<_, _≤_}
 use native.Mathlib.Nat.{not-suc-le-zero, zero-add}
 use native.Mathlib.Omega.{arith}
 use borrow.Author.Count.{below-more}
-use lib.ListN.{drop, getD, length, length-append, length-drop, length-set, replicate, set, take}
+use lib.ListN.{drop, getD, length, length-append, length-drop, length-replicate, length-set, replicate, set, take}
 use lib.Seq.{ext-getD, getD-drop, getD-set-other, getD-set-same, getD-take, length-take-le}
 use Rattle.aes_round.proofs.Laws.Bytes.{lt-or-le}
 use Rattle.aes_round.proofs.Laws.Fill.{Filled}
@@ -85,13 +85,10 @@ part-placed l w at n h e = record {
         length-append (take at l) rest
         ∙ omega (arith, short, length-append w (drop n (drop at l)), length-drop n (drop at l), length-drop at l)
 
--- ---- rooms that a store or a call leaves as long as they were
+-- ---- room that was cleared after a store
 
-pub as-long : (v u : List ℕ) (m : ℕ) → length v ≡ m → length u ≡ m → length v ≡ length u
-as-long v u m e l = e ∙ sym l
-
-pub length-after : (w u : List ℕ) (i x m : ℕ) → length u ≡ length (set w i x) → length w ≡ m → length u ≡ m
-length-after w u i x m e l = e ∙ length-set w i x ∙ l
+pub length-cleared : (w z : List ℕ) (i x m : ℕ) → z ≡ replicate (length (set w i x)) 0 → length w ≡ m → length z ≡ m
+length-cleared w z i x m e l = ap length e ∙ length-replicate (length (set w i x)) 0 ∙ length-set w i x ∙ l
 
 pub cleared : (w z : List ℕ) (i x m : ℕ) → z ≡ replicate (length (set w i x)) 0 → length w ≡ m → z ≡ replicate m 0
 cleared w z i x m e l = e ∙ ap (λ (n : ℕ). replicate n 0) (length-set w i x ∙ l)

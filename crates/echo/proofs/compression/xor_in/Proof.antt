@@ -1,13 +1,13 @@
 -- `xor_in` meets its contract: the loop rewrites the list from the front. Assumes nothing.
-use mathlib.Core.Path.{_∙_, _≡_, ap, refl}
-use Prim.Native.Nat.{_-_, ℕ}
-use native.Mathlib.Nat.{le-refl}
+use mathlib.Core.Path.{_≡_, refl}
+use Prim.Native.Nat.{_-_}
 use lib.ListN.{getD, length}
 use borrow.Author.Needs.{needs}
 use Rattle.aes_round.proofs.Laws.Bytes.{}
-use Rattle.aes_round.proofs.Laws.Fill.{Filled, fill-all, fill-more, fill-none}
-use Rattle.aes_round.proofs.Laws.Xor.{code-xor, xor-is-tab}
+use Rattle.aes_round.proofs.Laws.Fill.{Filled, fill-more, fill-none}
 use Rattle.aes_round.specs.Bytes.{xor}
+use native.Mathlib.Omega.{arith}
+use Rattle.echo.proofs.Laws.Compression.{xor-all, xor-old}
 use Rattle.echo.proofs.compression.xor_in.Statement.{statement}
 use Rattle.echo.proofs.compression.xor_in.Tie as tie
 
@@ -36,22 +36,13 @@ loop-less : tie.Need-loop-less Inv-loop μ-loop
 loop-less c = search needs
 
 loop-again : tie.Need-loop-again Inv-loop μ-loop
-loop-again c =
-    let A = c .before .before .before .before .args in
-    let L = c .before .before .before .loop in
-    let F = L .inv .1 in (
-      search needs,
-      fill-more _ _ _ _ _ _ F (search needs)
-          (code-xor (getD (L .v) (L .k) 0) (getD (A .src .now) (L .k) 0) ∙ ap (λ (x : ℕ). xor x (getD (A .src .now) (L .k) 0)) (F .rest _ (le-refl _))),
-    )
+loop-again c = (search needs, search (fill-more, xor-old))
 
 same-length : tie.Need-same-length Inv-loop μ-loop
-same-length c = c .before .loop .inv .1 .long ∙ c .before .loop .inv .0
+same-length c = omega arith
 
 returns : tie.Need-returns Inv-loop μ-loop
-returns c =
-    let A = c .before .before .args in
-    fill-all _ _ _ _ _ (c .before .loop .inv .1) (search needs) ∙ xor-is-tab (length (A .v .now)) (A .v .now) (A .src .now)
+returns c = search xor-all
 
 pub xor-in-spec : {M : Type 1} → statement M
 xor-in-spec =

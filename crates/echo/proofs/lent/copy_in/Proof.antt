@@ -37,7 +37,7 @@ loop-again : tie.Need-loop-again Inv-loop μ-loop
 loop-again c = (search needs, search needs, place-more _ _ _ _ _ _ (c .before .before .loop .inv .2) (search needs) refl)
 
 same-length : tie.Need-same-length Inv-loop μ-loop
-same-length c = c .before .loop .inv .2 .long
+same-length c = omega arith
 
 returns : tie.Need-returns Inv-loop μ-loop
 returns c = search place-all

@@ -5,7 +5,6 @@ use lib.ListN.{length-set}
 use borrow.Author.Needs.{needs}
 use Rattle.echo.proofs.Laws.Columns.{Mixed, mixed-all, mixed-more, mixed-none}
 use Rattle.aes_round.specs.Mixing.{forward}
-use Rattle.echo.proofs.Laws.Placed.{as-long}
 use Rattle.echo.proofs.mix_columns.mix_words.Statement.{statement}
 use Rattle.echo.proofs.mix_columns.mix_words.Tie as tie
 
@@ -85,7 +84,7 @@ loop-again : tie.Need-loop-again Inv-loop μ-loop
 loop-again c = search mixed-more
 
 same-length : tie.Need-same-length Inv-loop μ-loop
-same-length c = search as-long
+same-length c = omega arith
 
 returns : tie.Need-returns Inv-loop μ-loop
 returns c = search mixed-all

@@ -4,7 +4,7 @@ use Prim.Native.Nat.{_-_}
 use lib.ListN.{length}
 use borrow.Author.Needs.{needs}
 use Rattle.echo.proofs.Laws.Waiting.{Absorbed, absorb-all, absorb-more, absorb-none, some-block}
-use Rattle.echo.proofs.Laws.Placed.{as-long}
+use native.Mathlib.Omega.{arith}
 use Rattle.echo.proofs.waiting.absorb.Statement.{statement}
 use Rattle.echo.proofs.waiting.absorb.Tie as tie
 
@@ -43,10 +43,10 @@ loop-again : tie.Need-loop-again Inv-loop μ-loop
 loop-again c = (search, search absorb-more)
 
 same-length : tie.Need-same-length Inv-loop μ-loop
-same-length c = search as-long
+same-length c = omega arith
 
 same-length-2 : tie.Need-same-length-2 Inv-loop μ-loop
-same-length-2 c = search as-long
+same-length-2 c = omega arith
 
 returns : tie.Need-returns Inv-loop μ-loop
 returns c = search absorb-all

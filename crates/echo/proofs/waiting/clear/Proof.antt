@@ -5,6 +5,7 @@ use lib.ListN.{length}
 use borrow.Author.Needs.{needs}
 use Rattle.aes_round.proofs.Laws.Fill.{Filled, fill-all, fill-more, fill-none}
 use Rattle.echo.proofs.Laws.Waiting.{zeros-are}
+use native.Mathlib.Omega.{arith}
 use Rattle.echo.proofs.waiting.clear.Statement.{statement}
 use Rattle.echo.proofs.waiting.clear.Tie as tie
 
@@ -30,7 +31,7 @@ loop-again : tie.Need-loop-again Inv-loop μ-loop
 loop-again c = (refl, fill-more _ _ _ _ _ _ (c .before .loop .inv .1) (search needs) refl)
 
 same-length : tie.Need-same-length Inv-loop μ-loop
-same-length c = c .before .loop .inv .1 .long ∙ c .before .loop .inv .0
+same-length c = omega arith
 
 returns : tie.Need-returns Inv-loop μ-loop
 returns c = fill-all _ _ _ _ _ (c .before .loop .inv .1) (search needs) ∙ zeros-are _

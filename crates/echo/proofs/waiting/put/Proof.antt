@@ -1,7 +1,7 @@
 -- `put` meets its contract: the byte waits, or fills the block. Assumes nothing.
 use borrow.Author.Needs.{needs, set-long}
 use Rattle.echo.proofs.Laws.Waiting.{first-place, next-place, next-fits, place-within, put-full, put-more}
-use Rattle.echo.proofs.Laws.Placed.{cleared, length-after}
+use Rattle.echo.proofs.Laws.Placed.{cleared, length-cleared}
 use Rattle.echo.proofs.waiting.put.Statement.{statement}
 use Rattle.echo.proofs.waiting.put.Tie as tie
 
@@ -39,7 +39,7 @@ same-length-2 : tie.Need-same-length-2
 same-length-2 c = search needs
 
 same-length-3 : tie.Need-same-length-3
-same-length-3 c = search (length-after, c .before .before .clear .kept .0)
+same-length-3 c = search length-cleared
 
 returns-2 : tie.Need-returns-2
 returns-2 c = (search first-place, search (put-full, cleared))

@@ -31,7 +31,9 @@ module _ (s : List ℕ) (l : length s ≡ 256) (i : ℕ) where
       ∙ ap₂ xor
       (ap₂ xor (ap₂ xor (xor-zero-l _ ∙ byte-at _ i b (omega arith)) (byte-at _ (i + 4) b (omega arith))) (byte-at _ (i + 8) b (omega arith)))
       (byte-at _ (i + 12) b (omega arith)))
-      ∙ sym (ap (λ (x : List ℕ). xorBytes 16 x (word s (i + 12))) (ap (λ (x : List ℕ). xorBytes 16 x (word s (i + 8))) (xor-tab 16 _ _) ∙ xor-tab 16 _ _) ∙ xor-tab 16 _ _)
+      ∙ sym (ap (λ (x : List ℕ). xorBytes 16 x (word s (i + 12)))
+      (ap (λ (x : List ℕ). xorBytes 16 x (word s (i + 8))) (xor-tab 16 _ _) ∙ xor-tab 16 _ _)
+      ∙ xor-tab 16 _ _)
 
   pub fold-long : i < 8 → word (fold 128 s) i ≡ xorBytes 16 (word s i) (word s (i + 8))
   unfolding word

@@ -1,7 +1,7 @@
 -- The padded message fills its blocks, and with the fewest zeros. Assumes nothing.
 use mathlib.Core.Path.{_≡_, ap}
 use mathlib.Core.Logic.{⊎-elim}
-use mathlib.Core.List.{List, _∷_, _++_}
+use mathlib.Core.List.{List}
 use Prim.Native.Nat.{ℕ, _+_, _*_, _-_, _/_, _%_, _<_, _≤_}
 use native.Mathlib.Nat.{div-add-mod, mod-eq-of-lt, mod-lt, mul-add, mul-one}
 use native.Mathlib.Omega.{arith}

@@ -233,5 +233,6 @@ complete rs f h = subst (λ (u : List ℕ). parse u ≡ accepted rs) (append-nil
     whole =
         let T = parse-through rs [] f (omega (arith, long)) in
         T .1
-        ∙ ap (λ (x : Reading). allInFront rs (goOn x (parseFrom (T .0) u))) (sym (at-end u (length (tableOf rs)) (omega (arith, long)) (omega (arith, long)) (sym long)))
+        ∙ ap (λ (x : Reading). allInFront rs (goOn x (parseFrom (T .0) u)))
+        (sym (at-end u (length (tableOf rs)) (omega (arith, long)) (omega (arith, long)) (sym long)))
         ∙ all-accepted rs

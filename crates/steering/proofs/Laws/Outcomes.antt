@@ -10,7 +10,7 @@ use borrow.Author.Tests.{eqb-false, eqb-true, ltb-false, ltb-true}
 use lib.Dec.{eqb, lit<, ltb}
 use lib.ListN.{drop, getD, length, length-append, length-drop, length-take, take}
 use lib.Seq.{drop-cons, drop-length, getD-append-add}
-use Rattle.steering.specs.Numbers.{AreBytes, bigEndian, either, numberAt}
+use Rattle.steering.specs.Numbers.{AreBytes, either, numberAt}
 use Rattle.steering.specs.Parsing.{AllFit, Parsed, accepted, goOn, inFront, parse, parseFrom, refused, tableOf}
 use Rattle.steering.specs.Reading.{readAt}
 use Rattle.steering.specs.Records.{Fits, bodyLength, bodyOf, kindOf, recordOf}
@@ -223,7 +223,9 @@ StopsAt t place because =
 module _ (t : List ℕ) (b : AreBytes t) where
   -- a table is too long, or what it is parsed to says what it is
   what : (q : Parsed) → parse t ≡ q → ((4096 < length t) × (refused 8 0 ≡ q)) ⊎ ((length t ≤ 4096) × Outcome t 0 q)
-  what q e = ⊎-elim long (λ (h : length t ≤ 4096). inr (h, subst (Outcome t 0) e (outcome t b h (suc (length t)) 0 (omega arith) (omega arith)))) (by (ltb 4096 (length t)) refl)
+  what q e =
+      ⊎-elim long (λ (h : length t ≤ 4096). inr (h, subst (Outcome t 0) e (outcome t b h (suc (length t)) 0 (omega arith) (omega arith))))
+      (by (ltb 4096 (length t)) refl)
     where
       long : 4096 < length t → ((4096 < length t) × (refused 8 0 ≡ q)) ⊎ ((length t ≤ 4096) × Outcome t 0 q)
       long h = inl (h, sym (too-long-8 t h) ∙ e)
@@ -248,7 +250,8 @@ module _ (t : List ℕ) (b : AreBytes t) where
   pub refused-8-exactly : (parse t ≡ refused 8 0) ↔ (4096 < length t)
   refused-8-exactly = (
     λ (e : parse t ≡ refused 8 0).
-        ⊎-elim (λ (o : (4096 < length t) × (refused 8 0 ≡ refused 8 0)). o .0) (λ (o : (length t ≤ 4096) × Stopped t 0 8 0). absurd (not-8 (o .1 .kind) (o .1 .rest) (o .1 .why)))
+        ⊎-elim (λ (o : (4096 < length t) × (refused 8 0 ≡ refused 8 0)). o .0)
+        (λ (o : (length t ≤ 4096) × Stopped t 0 8 0). absurd (not-8 (o .1 .kind) (o .1 .rest) (o .1 .why)))
         (what (refused 8 0) e),
     too-long-8 t,
   )
@@ -259,7 +262,8 @@ module _ (t : List ℕ) (b : AreBytes t) where
   -- the byte behind some records that stops the parse
   stopped : (number place : ℕ) → (number ≡ 8 → ⊥) → parse t ≡ refused number place → (length t ≤ 4096) × Stopped t 0 number place
   stopped number place n e =
-      ⊎-elim (λ (o : (4096 < length t) × (refused 8 0 ≡ refused number place)). let p = o .1 in absurd (n (cc))) (λ (o : (length t ≤ 4096) × Stopped t 0 number place). o)
+      ⊎-elim (λ (o : (4096 < length t) × (refused 8 0 ≡ refused number place)). let p = o .1 in absurd (n (cc)))
+      (λ (o : (length t ≤ 4096) × Stopped t 0 number place). o)
       (what (refused number place) e)
 
   pub refused-9-exactly : (place : ℕ) → (parse t ≡ refused 9 place) ↔ StopsAt t place (λ kind rest. bodyLength kind ≡ 0)

@@ -1,6 +1,7 @@
 -- What is proved of the definitions in specs/, apart from any function.
 pub mod Laws
 pub mod ARefusalChangesNothing
+pub mod Differences
 pub mod NothingIsLost
 pub mod OneAnswer
 pub mod TheDigest

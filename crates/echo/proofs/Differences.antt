@@ -1,0 +1,55 @@
+-- Four wrong programs of must-fail/ change a definition and not the code, since the code could be made so only by a change of its shape. For each, a
+-- point at which the definition and the changed one, which is written out, differ. Assumes nothing.
+use mathlib.Core.Path.{_≡_, sym, ap, _∙_}
+use mathlib.Core.List.{List, [], _∷_, _++_}
+use Prim.Native.Nat.{ℕ, _+_, _*_, _/_, _%_, _^_}
+use native.Mathlib.Omega.{arith}
+use lib.Dec.{lit<}
+use lib.ListN.{drop, getD, replicate}
+use Rattle.aes_round.specs.Bytes.{tab, xor, xorBytes}
+use Rattle.aes_round.proofs.Laws.Bytes.{getD-tab, length-tab}
+use Rattle.aes_round.proofs.Laws.Xor.{getD-xor, xor-self, xor-twice, xor-zero-r}
+use Rattle.echo.specs.Compression.{bigFinal, fold}
+use Rattle.echo.specs.Numbers.{littleEndian}
+use Rattle.echo.specs.Refusals.{unless}
+use Rattle.echo.specs.Session.{admitted, blank, isSession, readLeaves, readRefusal, sessionDigest}
+use Rattle.echo.specs.Square.{counterKey, keysFrom}
+use Rattle.echo.proofs.Laws.Joined.{first-part}
+
+low-byte : (k : ℕ) → getD (counterKey k) 0 0 ≡ k / 256 ^ 0 % 256
+unfolding counterKey littleEndian
+low-byte k = first-part 8 (littleEndian 8 k) (replicate 8 0) (length-tab 8 _) 0 (lit< tt) ∙ getD-tab 8 _ 0 (lit< tt)
+
+-- word 1 of round 0
+pub counter-per-aes-round-differs : keysFrom 0 (16 * 0 + 1) ≡ keysFrom 0 (32 * 0 + 1 + 1) → ⊥
+counter-per-aes-round-differs e =
+    let z : _≡_ {A = ℕ} 1 2 = sym (low-byte 1) ∙ ap (λ (l : List ℕ). getD l 0 0) e ∙ low-byte 2 in
+    omega arith
+
+-- the number 1 in two bytes
+pub most-significant-first-differs : littleEndian 2 1 ≡ tab 2 (λ i. 1 / (256 ^ 2 / 256 ^ i / 256) % 256) → ⊥
+unfolding littleEndian
+most-significant-first-differs e =
+    let z : _≡_ {A = ℕ} 1 0 = sym (getD-tab 2 (λ i. 1 / 256 ^ i % 256) 0 (lit< tt)) ∙ ap (λ (l : List ℕ). getD l 0 0) e ∙ getD-tab 2 _ 0 (lit< tt) in
+    omega arith
+
+-- a chaining variable of the one byte 1, and no block
+pub no-feedforward-differs : bigFinal 1 (1 ∷ []) [] (0 ∷ []) ≡ fold 1 (0 ∷ []) → ⊥
+unfolding bigFinal fold
+no-feedforward-differs e =
+    let x = getD (fold 1 (0 ∷ [])) 0 0 in
+    let none : getD (fold 1 []) 0 0 ≡ 0 = getD-tab 1 _ 0 (lit< tt) in
+    let fed : getD (bigFinal 1 (1 ∷ []) [] (0 ∷ [])) 0 0 ≡ xor 1 x =
+    getD-xor 1 (xorBytes 1 (1 ∷ []) (fold 1 [])) (fold 1 (0 ∷ [])) 0 (lit< tt)
+    ∙ ap (λ (y : ℕ). xor y x) (getD-xor 1 (1 ∷ []) (fold 1 []) 0 (lit< tt) ∙ ap (xor 1) none ∙ xor-zero-r 1) in
+    let same : xor 1 x ≡ x = sym fed ∙ ap (λ (l : List ℕ). getD l 0 0) e in
+    let z : _≡_ {A = ℕ} 1 0 = sym (xor-twice 1 x) ∙ ap (λ (y : ℕ). xor y x) same ∙ xor-self x in
+    omega arith
+
+-- a room of the one byte 7, and no session
+pub written-at-a-refusal-differs :
+    readLeaves blank (7 ∷ []) ≡ unless (readRefusal blank 1) (sessionDigest blank ++ drop (0 / 8) (7 ∷ [])) (replicate 1 0) → ⊥
+unfolding readLeaves readRefusal isSession admitted
+written-at-a-refusal-differs e =
+    let z : _≡_ {A = ℕ} 7 0 = ap (λ (l : List ℕ). getD l 0 0) e in
+    omega arith

@@ -28,7 +28,7 @@ loop-less : tie.Need-loop-less Inv-loop μ-loop
 loop-less c = search needs
 
 loop-again : tie.Need-loop-again Inv-loop μ-loop
-loop-again c = (refl, fill-more _ _ _ _ _ _ (c .before .loop .inv .1) (search needs) refl)
+loop-again c = (search needs, search fill-more)
 
 same-length : tie.Need-same-length Inv-loop μ-loop
 same-length c = omega arith

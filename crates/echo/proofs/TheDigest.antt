@@ -12,8 +12,8 @@ use lib.Dec.{ltb}
 use lib.ListN.{drop, length, length-append}
 use Rattle.echo.specs.declared.session.Session.{Session}
 use Rattle.echo.specs.Digest.{digestOf}
-use Rattle.echo.specs.Session.{addAnswer, addBytes, addRefusal, admitted, digestLeaves, digestRefusal, isSession}
-use Rattle.echo.specs.Session.{limit, openAnswer, openRefusal, opened, readAnswer, readLeaves}
+use Rattle.echo.specs.Session.{addAnswer, addBytes, addRefusal, admitted, digestLeaves, digestRefusal, isSession, limit, openAnswer}
+use Rattle.echo.specs.Session.{openRefusal, opened, readAnswer, readLeaves}
 use Rattle.echo.proofs.Laws.AtOnce.{well-read}
 use Rattle.echo.proofs.Laws.Opened.{add-nothing, add-pieces, opened-is-session, opened-state, stateOf}
 

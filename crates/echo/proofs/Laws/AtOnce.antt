@@ -12,8 +12,8 @@ use Rattle.echo.specs.declared.session.Answer.{Answer}
 use Rattle.echo.specs.declared.session.Session.{Session}
 use Rattle.echo.specs.Digest.{digestOf}
 use Rattle.echo.specs.Families.{either}
-use Rattle.echo.specs.Session.{addAnswer, addBytes, addRefusal, admitted, digestLeaves, digestRefusal, isSession, limit}
-use Rattle.echo.specs.Session.{openAnswer, openRefusal, opened, readAnswer, readLeaves, readRefusal, sessionDigest}
+use Rattle.echo.specs.Session.{addAnswer, addBytes, addRefusal, admitted, digestLeaves, digestRefusal, isSession, limit, openAnswer}
+use Rattle.echo.specs.Session.{openRefusal, opened, readAnswer, readLeaves, readRefusal, sessionDigest}
 use Rattle.echo.proofs.Laws.Opened.{add-nothing, opened-digest, opened-is-session, opened-state, stateOf}
 
 module _ (h : ℕ) (salt message room : List ℕ) where

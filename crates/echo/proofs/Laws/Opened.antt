@@ -19,8 +19,8 @@ use Rattle.echo.specs.Square.{keysFrom}
 use Rattle.echo.proofs.Laws.Families.{block-pos, sizes}
 use Rattle.echo.proofs.Laws.Sessions.{is-clear}
 use Rattle.echo.proofs.Laws.Waiting.{put-full, put-more}
-use Rattle.echo.proofs.Laws.Stream.{block-rest, block-stays, blocks-left, count-full, count-more, counter-full, counter-full-block, iterate-ext}
-use Rattle.echo.proofs.Laws.Stream.{iterate-on, length-iterate, length-rest, length-snoc, nothing-waits, stored-full, stored-more}
+use Rattle.echo.proofs.Laws.Stream.{block-rest, block-stays, blocks-left, count-full, count-more, counter-full, counter-full-block}
+use Rattle.echo.proofs.Laws.Stream.{iterate-ext, iterate-on, length-iterate, length-rest, length-snoc, nothing-waits, stored-full, stored-more}
 
 -- the chaining variable after t full blocks of a message
 unfoldable pub chained : ℕ → List ℕ → List ℕ → ℕ → List ℕ

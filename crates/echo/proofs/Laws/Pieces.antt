@@ -10,7 +10,7 @@ use Rattle.echo.specs.declared.session.Answer.{Answer}
 use Rattle.echo.specs.declared.session.Session.{Session}
 use Rattle.echo.specs.Digest.{digestOf}
 use Rattle.echo.specs.Session.{addAnswer, admitted, isSession, limit, openAnswer, opened, readAnswer, readLeaves, sessionDigest}
-use Rattle.echo.proofs.Laws.Opened.{add-nothing, add-state, opened-digest, opened-state, stateOf, state-is-session}
+use Rattle.echo.proofs.Laws.Opened.{add-nothing, add-state, opened-digest, opened-state, state-is-session, stateOf}
 use Rattle.echo.proofs.Laws.Sessions.{added, left-0, open-0, read-0}
 use Rattle.echo.proofs.Laws.Words.{sixteen-are}
 

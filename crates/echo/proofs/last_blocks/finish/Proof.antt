@@ -1,9 +1,9 @@
 -- `finish` meets its contract: one block or two are left, by whether the padding fits behind the waiting bytes. Assumes nothing.
+use native.Mathlib.Omega.{arith}
 use borrow.Author.Needs.{needs, set-long}
+use lib.ListN.{length-set}
 use Rattle.echo.proofs.Laws.Ends.{counter-fits, one-left, two-left}
 use Rattle.echo.proofs.Laws.Waiting.{padding-fits, place-in, some-block}
-use native.Mathlib.Omega.{arith}
-use lib.ListN.{length-set}
 use Rattle.echo.proofs.last_blocks.finish.Statement.{statement}
 use Rattle.echo.proofs.last_blocks.finish.Tie as tie
 

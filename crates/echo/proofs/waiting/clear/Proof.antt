@@ -1,11 +1,11 @@
 -- `clear` meets its contract: the loop fills the list from the front. Assumes nothing.
 use mathlib.Core.Path.{_∙_, _≡_, refl}
 use Prim.Native.Nat.{_-_}
+use native.Mathlib.Omega.{arith}
 use lib.ListN.{length}
 use borrow.Author.Needs.{needs}
 use Rattle.aes_round.proofs.Laws.Fill.{Filled, fill-all, fill-more, fill-none}
 use Rattle.echo.proofs.Laws.Waiting.{zeros-are}
-use native.Mathlib.Omega.{arith}
 use Rattle.echo.proofs.waiting.clear.Statement.{statement}
 use Rattle.echo.proofs.waiting.clear.Tie as tie
 

@@ -1,7 +1,7 @@
 -- `record_of` meets its contract, a case for each return. Assumes nothing.
 use native.Mathlib.Omega.{arith}
-use Rattle.steering.proofs.Laws.Records.{last-kind, long-1, long-2, long-3, long-4, high-is, hold-is, low-is, node-is, note-is, note-reaches}
 use lib.Dec.{lit≤}
+use Rattle.steering.proofs.Laws.Records.{high-is, hold-is, last-kind, long-1, long-2, long-3, long-4, low-is, node-is, note-is, note-reaches}
 use Rattle.steering.proofs.records.record_of.Statement.{statement}
 use Rattle.steering.proofs.records.record_of.Tie as tie
 

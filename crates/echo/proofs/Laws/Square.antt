@@ -156,6 +156,7 @@ module _ (C : ℕ) (salt s₀ : List ℕ) where
   unfolding Ran rounds
   ran-none = refl
 
+  -- the premises stand in the order in which `search` finds them within its bounds
   pub ran-more : (n : ℕ) (s a b c : List ℕ) → Ran n s → b ≡ bigShiftRows a → c ≡ bigMixColumns b → a ≡ bigSubWords (keysFrom (C + 16 * n)) salt s
       → Ran (n + 1) c
   unfolding Ran rounds bigRound bigSubWords

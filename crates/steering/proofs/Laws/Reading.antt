@@ -1,5 +1,5 @@
 -- Each case of reading at a place, from the tests that lead to it. Assumes nothing.
-use mathlib.Core.Path.{_≡_, refl, sym, _∙_}
+use mathlib.Core.Path.{_≡_, refl, sym, subst, _∙_}
 use mathlib.Core.Bool.{Bool, true, false}
 use mathlib.Core.List.{List}
 use Prim.Native.Nat.{ℕ, _+_, _-_, _^_, _<_, _≤_}
@@ -56,63 +56,43 @@ pub record Here (t : List ℕ) (place : ℕ) (r : Record) (next : ℕ) : Type 0 
   pub in-table : place + 1 + bodyLength (getD t place 0) ≤ length t
   pub record-is : r ≡ recordOf (getD t place 0) (take (bodyLength (getD t place 0)) (drop (place + 1) t))
 
+-- what a reading says of the table; a refusal says nothing here
+abbrev Says : List ℕ → ℕ → Reading → Type 0
+Says t place (Found r next) = Here t place r next
+Says t place End = place ≡ length t
+Says t place (Refused number at) = Unit {0}
+
 module _ (t : List ℕ) (place : ℕ) where
-  pub ended : End ≡ readAt t place → place ≡ length t
-  ended e = by (ltb (length t) place) (ltb 4096 (length t)) (eqb place (length t)) refl refl refl
+  says : (x : Reading) → x ≡ readAt t place → Says t place x
+  says x e = by (ltb (length t) place) (ltb 4096 (length t)) (eqb place (length t)) refl refl refl
     where
-      never : {number at : ℕ} → End ≡ Refused number at → place ≡ length t
-      never z = let w : _≡_ {A = ℕ} 0 1 = cc in absurd (omega arith)
+      kind : ℕ
+      kind = getD t place 0
 
-      at : (place ≡ length t → ⊥) → length t ≤ 4096 → place ≤ length t → place ≡ length t
-      at n b a = in-record (eqb (bodyLength kind) 0) (ltb (length t - (place + 1)) (bodyLength kind)) refl refl
-        where
-          kind : ℕ
-          kind = getD t place 0
+      this : (y : Reading) → y ≡ readAt t place → Says t place y → Says t place x
+      this y f S = subst (Says t place) (f ∙ sym e) S
 
-          in-record : (x y : Bool) → eqb (bodyLength kind) 0 ≡ x → ltb (length t - (place + 1)) (bodyLength kind) ≡ y → place ≡ length t
-          in-record true y p q = never (e ∙ sym (unknown-kind t place a b n _ refl (eqb-true _ _ p)))
-          in-record false true p q = never (e ∙ sym (cut-short t place a b n _ refl (eqb-false _ _ p) (ltb-true _ _ q)))
-          in-record false false p q =
-              let z = e ∙ sym (whole t place a b n _ refl (eqb-false _ _ p) _ _ refl refl (ltb-false _ _ q)) in
-              let w : _≡_ {A = ℕ} 0 1 = cc in
-              absurd (omega arith)
+      record-says : (place ≡ length t → ⊥) → length t ≤ 4096 → place ≤ length t → (x₁ x₂ : Bool) → eqb (bodyLength kind) 0 ≡ x₁
+          → ltb (length t - (place + 1)) (bodyLength kind) ≡ x₂ → Says t place x
+      record-says c b a true x₂ p q = this _ (unknown-kind t place a b c _ refl (eqb-true _ _ p)) tt
+      record-says c b a false true p q = this _ (cut-short t place a b c _ refl (eqb-false _ _ p) (ltb-true _ _ q)) tt
+      record-says c b a false false p q =
+          let some = eqb-false _ _ p in
+          let fits = ltb-false _ _ q in
+          this _ (whole t place a b c _ refl some _ _ refl refl fits)
+          (record { not-long = b; known = omega arith; next-is = refl; in-table = omega arith; record-is = refl })
 
-      by : (x y z : Bool) → ltb (length t) place ≡ x → ltb 4096 (length t) ≡ y → eqb place (length t) ≡ z → place ≡ length t
-      by x y true p q s = eqb-true _ _ s
-      by true y false p q s = never (e ∙ sym (past-end t place (ltb-true _ _ p)))
-      by false true false p q s = never (e ∙ sym (too-long t place (ltb-false _ _ p) (ltb-true _ _ q)))
-      by false false false p q s = at (eqb-false _ _ s) (ltb-false _ _ q) (ltb-false _ _ p)
+      by : (x₁ x₂ x₃ : Bool) → ltb (length t) place ≡ x₁ → ltb 4096 (length t) ≡ x₂ → eqb place (length t) ≡ x₃ → Says t place x
+      by true x₂ x₃ p q r = this _ (past-end t place (ltb-true _ _ p)) tt
+      by false true x₃ p q r = this _ (too-long t place (ltb-false _ _ p) (ltb-true _ _ q)) tt
+      by false false true p q r = this _ (at-end t place (ltb-false _ _ p) (ltb-false _ _ q) (eqb-true _ _ r)) (eqb-true _ _ r)
+      by false false false p q r = record-says (eqb-false _ _ r) (ltb-false _ _ q) (ltb-false _ _ p) _ _ refl refl
 
-  module _ (r : Record) (next : ℕ) where
-    pub found : Found r next ≡ readAt t place → Here t place r next
-    found e = by (ltb (length t) place) (ltb 4096 (length t)) (eqb place (length t)) refl refl refl
-      where
-        never : {number at : ℕ} → Found r next ≡ Refused number at → Here t place r next
-        never z = let w : _≡_ {A = ℕ} 0 1 = cc in absurd (omega arith)
+  pub ended : End ≡ readAt t place → place ≡ length t
+  ended = says End
 
-        at : (place ≡ length t → ⊥) → length t ≤ 4096 → place ≤ length t → Here t place r next
-        at n b a = in-record (eqb (bodyLength kind) 0) (ltb (length t - (place + 1)) (bodyLength kind)) refl refl
-          where
-            kind : ℕ
-            kind = getD t place 0
-
-            in-record : (x y : Bool) → eqb (bodyLength kind) 0 ≡ x → ltb (length t - (place + 1)) (bodyLength kind) ≡ y → Here t place r next
-            in-record true y p q = never (e ∙ sym (unknown-kind t place a b n _ refl (eqb-true _ _ p)))
-            in-record false true p q = never (e ∙ sym (cut-short t place a b n _ refl (eqb-false _ _ p) (ltb-true _ _ q)))
-            in-record false false p q =
-                let n0 : bodyLength kind ≡ 0 → ⊥ = eqb-false _ _ p in
-                let fits = ltb-false _ _ q in
-                let z = e ∙ sym (whole t place a b n _ refl n0 _ _ refl refl fits) in
-                record { not-long = b; known = omega arith; next-is = cc; in-table = omega arith; record-is = cc }
-
-        by : (x y z : Bool) → ltb (length t) place ≡ x → ltb 4096 (length t) ≡ y → eqb place (length t) ≡ z → Here t place r next
-        by true y s p q u = never (e ∙ sym (past-end t place (ltb-true _ _ p)))
-        by false true s p q u = never (e ∙ sym (too-long t place (ltb-false _ _ p) (ltb-true _ _ q)))
-        by false false true p q u =
-            let z = e ∙ sym (at-end t place (ltb-false _ _ p) (ltb-false _ _ q) (eqb-true _ _ u)) in
-            let w : _≡_ {A = ℕ} 0 1 = cc in
-            absurd (omega arith)
-        by false false false p q u = at (eqb-false _ _ u) (ltb-false _ _ q) (ltb-false _ _ p)
+  pub found : (r : Record) (next : ℕ) → Found r next ≡ readAt t place → Here t place r next
+  found r next = says (Found r next)
 
 -- ---- the same of what the code has: what it read at a place
 

@@ -8,8 +8,8 @@ use Prim.Native.Nat.{ℕ, suc}
 use lib.ListN.{length}
 use Rattle.echo.specs.declared.session.Session.{Session}
 use Rattle.echo.specs.Routines.{compressLeaves, compressRefusal, roundsBackLeave, roundsLeave, roundsRefusal}
-use Rattle.echo.specs.Session.{addAnswer, addRefusal, admitted, blank, digestLeaves, digestRefusal}
-use Rattle.echo.specs.Session.{isSession, openAnswer, openRefusal, readLeaves, readRefusal}
+use Rattle.echo.specs.Session.{addAnswer, addRefusal, admitted, blank, digestLeaves, digestRefusal, isSession, openAnswer, openRefusal}
+use Rattle.echo.specs.Session.{readLeaves, readRefusal}
 
 -- the refusal number is k + 1
 module _ (k : ℕ) where

@@ -2,8 +2,8 @@
 use mathlib.Core.Path.{_≡_, refl, sym, ap, ap₂, _∙_}
 use mathlib.Core.List.{List}
 use Prim.Native.Nat.{ℕ, _+_, _*_, _/_, _%_, _<_}
-use native.Mathlib.Nat.{add-zero, div-add-mod, div-eq-of-lt, div-lt-iff-lt-mul, mod-eq-of-lt, mod-lt}
-use native.Mathlib.Nat.{mul-add-div, mul-add-mod-self-left, mul-comm, mul-le-mul-left, mul-suc}
+use native.Mathlib.Nat.{add-zero, div-add-mod, div-eq-of-lt, div-lt-iff-lt-mul, mod-eq-of-lt, mod-lt, mul-add-div, mul-add-mod-self-left, mul-comm}
+use native.Mathlib.Nat.{mul-le-mul-left, mul-suc}
 use native.Mathlib.Omega.{arith}
 use lib.ListN.{length, getD}
 use Rattle.aes_round.specs.Bytes.{Bytes, tab, xor, xorBytes}

@@ -11,13 +11,13 @@ use Rattle.aes_round.specs.Bytes.{Bytes, tab, xorBytes}
 use Rattle.aes_round.specs.Array.{array, column, entry}
 use Rattle.aes_round.specs.Mixing.{backward, forward, mixColumn}
 use Rattle.aes_round.specs.Substitution.{Table, subByte, subByteBack}
-use Rattle.aes_round.specs.Rounds.{addRoundKey, aesRound, aesRoundBack, mixColumns, shiftBackFrom}
-use Rattle.aes_round.specs.Rounds.{shiftFrom, shiftRows, shiftRowsBack, subBytes, subBytesBack}
+use Rattle.aes_round.specs.Rounds.{addRoundKey, aesRound, aesRoundBack, mixColumns, shiftBackFrom, shiftFrom, shiftRows, shiftRowsBack}
+use Rattle.aes_round.specs.Rounds.{subBytes, subBytesBack}
 use Rattle.aes_round.proofs.Laws.Every.{agree}
 use Rattle.aes_round.proofs.Laws.Bytes.{getD-tab, is-tab, length-tab, tab-bytes, tab-ext}
 use Rattle.aes_round.proofs.Laws.Xor.{getD-xor, length-xor, xor-bytes, xor-bytes-twice}
-use Rattle.aes_round.proofs.Laws.Array.{array-bytes, array-ext, column-bytes, column-xor, entry-array, entry-byte}
-use Rattle.aes_round.proofs.Laws.Array.{entry-xor, getD-column, is-array, length-array, xor-array}
+use Rattle.aes_round.proofs.Laws.Array.{array-bytes, array-ext, column-bytes, column-xor, entry-array, entry-byte, entry-xor, getD-column}
+use Rattle.aes_round.proofs.Laws.Array.{is-array, length-array, xor-array}
 use Rattle.aes_round.proofs.Laws.Substitution.{sub-back-lt, sub-back-undone, sub-lt, sub-undone, table-at}
 use Rattle.aes_round.proofs.Laws.Mixing.{backward-bytes, forward-bytes, length-mix, mix-back-undone, mix-bytes, mix-undone, mix-xor}
 

@@ -81,7 +81,7 @@ module _ (s : Session) (is : isSession s ≡ true) (lc : length (s .chaining) �
       zeros =
           let e : 192 - s .taken % b ≡ length (drop (s .taken % b) (s .waiting)) = omega (arith, length-drop (s .taken % b) (s .waiting)) in
           ap (λ (n : ℕ). replicate n 0) e
-          ∙ sym (zeros-only (drop (s .taken % b) (s .waiting)) (fits .rest-zero))
+          ∙ sym (zeros-only (drop (s .taken % b) (s .waiting)) (fits .waiting-zero))
 
       waiting-is : drop (b * (length waits / b)) waits ++ replicate (192 - length waits % b) 0 ≡ s .waiting
       waiting-is =
@@ -102,7 +102,7 @@ module _ (s : Session) (is : isSession s ≡ true) (lc : length (s .chaining) �
     continued-is-session : isSession (addBytes s piece) ≡ true
     continued-is-session =
         ap isSession added-is
-        ∙ state-is-session h (s .salt) v rest q v-long (waits ++ piece) (fits .admits) (omega (arith, count-is)) (fits .room-zero)
+        ∙ state-is-session h (s .salt) v rest q v-long (waits ++ piece) (fits .admits) (omega (arith, count-is)) (fits .chaining-zero)
 
     -- the paper's iteration from the record, over its waiting bytes, the piece and the padding
     abbrev final : List ℕ

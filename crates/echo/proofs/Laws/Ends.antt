@@ -58,7 +58,7 @@ zero-at [] k e = refl
 zero-at (x ∷ l) zero e = eqb-true x 0 (both (eqb x 0) (allZero l) e .0)
 zero-at (x ∷ l) (suc k) e = zero-at l k (both (eqb x 0) (allZero l) e .1)
 
-pub zero-from : (w : List ℕ) (u k : ℕ) → allZero (drop u w) ≡ true → u ≤ k → getD w k 0 ≡ 0
+zero-from : (w : List ℕ) (u k : ℕ) → allZero (drop u w) ≡ true → u ≤ k → getD w k 0 ≡ 0
 zero-from w u k e h = ap (λ (i : ℕ). getD w i 0) (sym (on k h)) ∙ sym (getD-drop u w (k - u) 0) ∙ zero-at (drop u w) (k - u) e
   where
     on : (k : ℕ) → u ≤ k → u + (k - u) ≡ k
@@ -181,7 +181,7 @@ module _ (b h n : ℕ) (w : List ℕ) (lw : length w ≡ 192) (least : 128 ≤ b
   begun-long m l = length-take-le m (set w (n % b) 0x80) (omega (arith, length-set w (n % b) 0x80))
 
   -- one block: the waiting bytes, the padding's first byte, zeros and the lengths
-  pub one : n % b + 19 ≤ b → block b (take (n % b) w ++ padding b h n) 0 ≡ take (b - 18) (set w (n % b) 0x80) ++ lengthsOf h n
+  one : n % b + 19 ≤ b → block b (take (n % b) w ++ padding b h n) 0 ≡ take (b - 18) (set w (n % b) 0x80) ++ lengthsOf h n
   unfolding block padding
   one k =
       ap₂ (λ (x : ℕ) (l : List ℕ). take b (drop x l)) (mul-zero b)
@@ -201,11 +201,11 @@ module _ (b h n : ℕ) (w : List ℕ) (lw : length w ≡ 192) (least : 128 ≤ b
       ∙ sym (append-assoc (take (n % b) w) (0x80 ∷ replicate (b - n % b - 1) 0) (replicate (b - 18) 0 ++ lengthsOf h n))
       ∙ ap (λ (l : List ℕ). l ++ (replicate (b - 18) 0 ++ lengthsOf h n)) (sym (begun w (n % b) b z (mod-lt n (some b n least)) (omega arith)))
 
-  pub two-first : b < n % b + 19 → block b (take (n % b) w ++ padding b h n) 0 ≡ take b (set w (n % b) 0x80)
+  two-first : b < n % b + 19 → block b (take (n % b) w ++ padding b h n) 0 ≡ take b (set w (n % b) 0x80)
   unfolding block
   two-first k = ap₂ (λ (x : ℕ) (l : List ℕ). take b (drop x l)) (mul-zero b) (halves k) ∙ take-at (take b (set w (n % b) 0x80)) _ b (begun-long b most)
 
-  pub two-second : b < n % b + 19 → block b (take (n % b) w ++ padding b h n) 1 ≡ take (b - 18) (replicate 192 0) ++ lengthsOf h n
+  two-second : b < n % b + 19 → block b (take (n % b) w ++ padding b h n) 1 ≡ take (b - 18) (replicate 192 0) ++ lengthsOf h n
   unfolding block
   two-second k =
       ap₂ (λ (x : ℕ) (l : List ℕ). take b (drop x l)) (mul-one b) (halves k)
@@ -236,27 +236,40 @@ module _ (h b : ℕ) (size : b ≡ blockSize h) where
 
 -- ---- the final chaining variable
 
+abbrev step : ℕ → List ℕ → ℕ → List ℕ → List ℕ → List ℕ
+step h salt k = compress (chainingSize h) (roundCount (chainingSize h)) (keysFrom k) salt
+
 -- the chaining variable of the room that has taken a block
-taken-in : (h : ℕ) (salt v : List ℕ) (k : ℕ) (m : List ℕ)
-    → take (chainingSize h) (compressed h salt v k m) ≡ compress (chainingSize h) (roundCount (chainingSize h)) (keysFrom k) salt (take (chainingSize h) v) m
+taken-in : (h : ℕ) (salt v : List ℕ) (k : ℕ) (m : List ℕ) → take (chainingSize h) (compressed h salt v k m) ≡ step h salt k (take (chainingSize h) v) m
 unfolding compress bigFinal
 taken-in h salt v k m = take-at _ (drop (chainingSize h) v) (chainingSize h) (length-xor (chainingSize h) _ _)
 
 module _ (h n : ℕ) (salt v w : List ℕ) (lw : length w ≡ 192) (z : allZero (drop (n % blockSize h) w) ≡ true) where
-  final-one : n % blockSize h + 19 ≤ blockSize h
-      → take (chainingSize h)
-      (compressed h salt v (either (eqb (n % blockSize h) 0) 0 (8 * n)) (take (blockSize h - 18) (set w (n % blockSize h) 0x80) ++ lengthsOf h n))
-      ≡ finalChaining (made h salt v n w)
+  -- the blocks that are left, their counters, and the chaining variable that has taken so many of them
+  abbrev blocks : ℕ → List ℕ
+  blocks = block (blockSize h) (take (n % blockSize h) w ++ padding (blockSize h) h n)
+
+  abbrev counters : ℕ → ℕ
+  counters i = counterAt (blockSize h) n (n / blockSize h + i)
+
+  abbrev through : ℕ → List ℕ
+  through = iterate (chainingSize h) (roundCount (chainingSize h)) salt (take (chainingSize h) v) blocks counters
+
+  first-in : (u m : List ℕ) → u ≡ compressed h salt v (either (eqb (n % blockSize h) 0) 0 (8 * n)) m → m ≡ blocks 0
+      → take (chainingSize h) u ≡ step h salt (counters 0) (take (chainingSize h) v) (blocks 0)
+  first-in u m e f =
+      ap (take (chainingSize h)) e
+      ∙ taken-in h salt v _ m
+      ∙ ap₂ (λ (x : ℕ) (y : List ℕ). step h salt x (take (chainingSize h) v) y) (sym (first-counter (blockSize h) n (sizes h .block-least))) f
+
+  final-one : n % blockSize h + 19 ≤ blockSize h → (u : List ℕ)
+      → u ≡ compressed h salt v (either (eqb (n % blockSize h) 0) 0 (8 * n)) (take (blockSize h - 18) (set w (n % blockSize h) 0x80) ++ lengthsOf h n)
+      → take (chainingSize h) u ≡ finalChaining (made h salt v n w)
   unfolding finalChaining iterate
-  final-one k =
+  final-one k u e =
       let S = sizes h in
-      taken-in h salt v _ _
-      ∙ ap₂ (λ (x : ℕ) (m : List ℕ). compress (chainingSize h) (roundCount (chainingSize h)) (keysFrom x) salt (take (chainingSize h) v) m)
-      (sym (first-counter (blockSize h) n (S .block-least))) (sym (one (blockSize h) h n w lw (S .block-least) (S .block-most) z k))
-      ∙ ap
-      (iterate (chainingSize h) (roundCount (chainingSize h)) salt (take (chainingSize h) v)
-      (block (blockSize h) (take (n % blockSize h) w ++ padding (blockSize h) h n)) (λ i. counterAt (blockSize h) n (n / blockSize h + i)))
-      (sym (one-block (blockSize h) n (S .block-least) k))
+      first-in u _ e (sym (one (blockSize h) h n w lw (S .block-least) (S .block-most) z k))
+      ∙ ap through (sym (one-block (blockSize h) n (S .block-least) k))
 
   final-two : blockSize h < n % blockSize h + 19 → (u : List ℕ)
       → u ≡ compressed h salt v (either (eqb (n % blockSize h) 0) 0 (8 * n)) (take (blockSize h) (set w (n % blockSize h) 0x80))
@@ -265,21 +278,11 @@ module _ (h n : ℕ) (salt v w : List ℕ) (lw : length w ≡ 192) (z : allZero 
   final-two k u e =
       let S = sizes h in
       taken-in h salt u 0 _
-      ∙ ap₂ (λ (x m : List ℕ). compress (chainingSize h) (roundCount (chainingSize h)) (keysFrom 0) salt x m)
-      (ap (take (chainingSize h)) e ∙ taken-in h salt v _ _
-      ∙ ap₂ (λ (x : ℕ) (m : List ℕ). compress (chainingSize h) (roundCount (chainingSize h)) (keysFrom x) salt (take (chainingSize h) v) m)
-      (sym (first-counter (blockSize h) n (S .block-least))) (sym (two-first (blockSize h) h n w lw (S .block-least) (S .block-most) z k)))
+      ∙ ap₂ (step h salt 0) (first-in u _ e (sym (two-first (blockSize h) h n w lw (S .block-least) (S .block-most) z k)))
       (sym (two-second (blockSize h) h n w lw (S .block-least) (S .block-most) z k))
-      ∙ ap
-      (λ (x : ℕ). compress (chainingSize h) (roundCount (chainingSize h)) (keysFrom x) salt
-      (compress (chainingSize h) (roundCount (chainingSize h)) (keysFrom (counterAt (blockSize h) n (n / blockSize h + 0))) salt (take (chainingSize h) v)
-      (block (blockSize h) (take (n % blockSize h) w ++ padding (blockSize h) h n) 0))
-      (block (blockSize h) (take (n % blockSize h) w ++ padding (blockSize h) h n) 1))
+      ∙ ap (λ (x : ℕ). step h salt x (step h salt (counters 0) (take (chainingSize h) v) (blocks 0)) (blocks 1))
       (sym (second-counter (blockSize h) n (S .block-least)))
-      ∙ ap
-      (iterate (chainingSize h) (roundCount (chainingSize h)) salt (take (chainingSize h) v)
-      (block (blockSize h) (take (n % blockSize h) w ++ padding (blockSize h) h n)) (λ i. counterAt (blockSize h) n (n / blockSize h + i)))
-      (sym (two-blocks (blockSize h) n (S .block-least) k))
+      ∙ ap through (sym (two-blocks (blockSize h) n (S .block-least) k))
 
 -- the counter of a block that is left is low enough
 end-counter-fits : (u n : ℕ) → n ≤ limit → either (eqb u 0) 0 (8 * n) ≤ 2 ^ 64 - 161
@@ -301,9 +304,8 @@ module _ (h n b k : ℕ) (size : b ≡ blockSize h) (counter : k ≡ either (eqb
     pub one-left : n % b + 19 ≤ b → (u : List ℕ) → u ≡ compressed h salt v k (take (blockSize h - 18) (set w (n % b) 0x80) ++ lengthsOf h n)
         → take (chainingSize h) u ≡ finalChaining (made h salt v n w)
     one-left fits u e =
-        ap (take (chainingSize h))
+        final-one h n salt v w lw z (subst (λ (x : ℕ). n % x + 19 ≤ x) size fits) u
         (e ∙ ap₂ (λ (x y : ℕ). compressed h salt v x (take (blockSize h - 18) (set w (n % y) 0x80) ++ lengthsOf h n)) counter-is size)
-        ∙ final-one h n salt v w lw z (subst (λ (x : ℕ). n % x + 19 ≤ x) size fits)
 
     pub two-left : b < n % b + 19 → (u l r : List ℕ) → u ≡ compressed h salt v k (take (blockSize h) (set w (n % b) 0x80))
         → l ≡ replicate (length (set w (n % b) 0x80)) 0 → r ≡ compressed h salt u 0 (take (blockSize h - 18) l ++ lengthsOf h n)

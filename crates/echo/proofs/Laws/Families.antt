@@ -1,5 +1,5 @@
 -- The sizes of the two families. Assumes nothing.
-use mathlib.Core.Path.{_≡_, refl}
+use mathlib.Core.Path.{_≡_}
 use mathlib.Core.Bool.{Bool, true, false}
 use Prim.Native.Nat.{ℕ, _+_, _*_, _/_, _<_, _≤_}
 use native.Mathlib.Omega.{arith}
@@ -17,13 +17,19 @@ pub record Sizes (c b : ℕ) : Type 0 where
   pub parts : 256 ≡ c * (256 / c)
   pub rounds-most : roundCount c ≤ 10
 
+pub short-sizes : Sizes 64 192
+short-sizes = omega arith
+
+pub long-sizes : Sizes 128 128
+long-sizes = omega arith
+
 pub sizes : (h : ℕ) → Sizes (chainingSize h) (blockSize h)
 unfolding chainingSize blockSize
 sizes h = by (leb h 256)
   where
     by : (t : Bool) → Sizes (either t 64 128) (either t 192 128)
-    by true = omega arith
-    by false = omega arith
+    by true = short-sizes
+    by false = long-sizes
 
 pub block-pos : (h : ℕ) → 0 < blockSize h
 block-pos h = let S = sizes h in omega arith

@@ -1,14 +1,14 @@
 -- Bytes put into a lent slice: what a loop that stores them does turn by turn, and what its result is. Assumes nothing.
 use mathlib.Core.Path.{_≡_, refl, sym, ap, _∙_, subst}
 use mathlib.Core.Logic.{⊎-elim}
-use mathlib.Core.List.{List, _++_}
+use mathlib.Core.List.{List, _++_, append-nil}
 use Prim.Native.Nat.{ℕ, _+_, _-_, _<_, _≤_}
 use native.Mathlib.Nat.{not-suc-le-zero, zero-add}
 use native.Mathlib.Omega.{arith}
 use borrow.Author.Count.{below-more}
 use lib.ListN.{drop, getD, length, length-append, length-drop, length-replicate, length-set, replicate, set, take}
-use lib.Seq.{ext-getD, getD-drop, getD-set-other, getD-set-same, getD-take, length-take-le}
-use Rattle.aes_round.proofs.Laws.Bytes.{lt-or-le}
+use lib.Seq.{drop-length, getD-drop, getD-set-other, getD-set-same, getD-take, length-take-le}
+use Rattle.aes_round.proofs.Laws.Bytes.{lt-or-le, same-list}
 use Rattle.aes_round.proofs.Laws.Fill.{Filled}
 use Rattle.echo.specs.Placed.{Placed}
 use Rattle.echo.proofs.Laws.Joined.{first-part, second-part}
@@ -30,12 +30,30 @@ module _ (l : List ℕ) (at : ℕ) (w : List ℕ) where
   pub place-all : (n i : ℕ) (r : List ℕ) → Placed l at w i r → n ≡ length w → i ≤ n → n ≤ i → Placed l at w (length w) r
   place-all n i r P e most least = let all : i ≡ length w = omega arith in subst (λ (m : ℕ). Placed l at w m r) all P
 
+-- bytes placed at the front of room
+pub placed-front : (room w r : List ℕ) (n : ℕ) → length w ≡ n → n ≤ length room → Placed room 0 w n r → r ≡ w ++ drop n room
+placed-front room w r n lw l P =
+    same-list (length room) r (w ++ drop n room) (P .long) (length-append w (drop n room) ∙ omega (arith, lw, length-drop n room))
+    (λ k h. ⊎-elim (front k) (rest k) (lt-or-le k n))
+  where
+    front : (k : ℕ) → k < n → getD r k 0 ≡ getD (w ++ drop n room) k 0
+    front k lt = ap (λ (i : ℕ). getD r i 0) (sym (zero-add k)) ∙ P .inside k lt ∙ sym (first-part n w (drop n room) lw k lt)
+
+    on : (k : ℕ) → n ≤ k → n + (k - n) ≡ k
+    on k g = omega arith
+
+    rest : (k : ℕ) → n ≤ k → getD r k 0 ≡ getD (w ++ drop n room) k 0
+    rest k g =
+        P .behind k (omega arith) ∙ ap (λ (i : ℕ). getD room i 0) (sym (on k g)) ∙ sym (getD-drop n room (k - n) 0)
+        ∙ sym (ap (λ (i : ℕ). getD (w ++ drop n room) i 0) (sym (on k g)) ∙ second-part n w (drop n room) lw (k - n))
+
 -- a list placed over the whole of another
 pub placed-whole : (l w r : List ℕ) (n : ℕ) → Placed l 0 w (length w) r → length w ≡ n → length l ≡ n → r ≡ w
-placed-whole l w r n P hw hl = ext-getD 0 r w same (λ k h. ap (λ (m : ℕ). getD r m 0) (sym (zero-add k)) ∙ P .inside k (omega (arith, same)))
-  where
-    same : length r ≡ length w
-    same = P .long ∙ hl ∙ sym hw
+placed-whole l w r n P hw hl =
+    placed-front l w r (length w) refl (omega arith) P
+    ∙ ap (λ (k : ℕ). w ++ drop k l) (hw ∙ sym hl)
+    ∙ ap (λ (x : List ℕ). w ++ x) (drop-length l)
+    ∙ append-nil w
 
 -- a loop that fills a list from the front, n bytes at a turn
 pub fill-part : (N : ℕ) (f : ℕ → ℕ) (l : List ℕ) (i : ℕ) (r w r′ : List ℕ) (n : ℕ) → Filled N f l i r → Placed r i w n r′ → i + n ≤ N
@@ -87,8 +105,8 @@ part-placed l w at n h e = record {
 
 -- ---- room that was cleared after a store
 
-pub length-cleared : (w z : List ℕ) (i x m : ℕ) → z ≡ replicate (length (set w i x)) 0 → length w ≡ m → length z ≡ m
-length-cleared w z i x m e l = ap length e ∙ length-replicate (length (set w i x)) 0 ∙ length-set w i x ∙ l
-
 pub cleared : (w z : List ℕ) (i x m : ℕ) → z ≡ replicate (length (set w i x)) 0 → length w ≡ m → z ≡ replicate m 0
 cleared w z i x m e l = e ∙ ap (λ (n : ℕ). replicate n 0) (length-set w i x ∙ l)
+
+pub length-cleared : (w z : List ℕ) (i x m : ℕ) → z ≡ replicate (length (set w i x)) 0 → length w ≡ m → length z ≡ m
+length-cleared w z i x m e l = ap length (cleared w z i x m e l) ∙ length-replicate m 0

@@ -17,6 +17,7 @@ use Rattle.echo.specs.Session.{admitted, digestRefusal, isSession, limit
 use Rattle.echo.specs.Square.{keysFrom}
 use Rattle.echo.specs.declared.session.Answer.{Answer}
 use Rattle.echo.specs.declared.session.Session.{Session}
+use Rattle.echo.proofs.Laws.Families.{Sizes, long-sizes, short-sizes}
 use Rattle.echo.proofs.Laws.Words.{sixteen-are}
 
 -- with a chaining variable of 64 bytes the block decides
@@ -144,27 +145,26 @@ read-fits s room e z =
 pub done : {A : Type 0} (n : ℕ) (a b : A) → n ≡ 0 → unless n a b ≡ a
 done n a b e = ap (λ (k : ℕ). unless k a b) e
 
--- sizes that fit, and what compression needs of them
-sizes-fit : (c b : ℕ) → sizesFit c b ≡ true → ((c ≡ 64) × (b ≡ 192)) ⊎ ((c ≡ 128) × (b ≡ 128))
+sizes-fit : (c b : ℕ) → sizesFit c b ≡ true → Sizes c b
 sizes-fit c b e = short (eqb c 64) (eqb b 192) (eqb c 128) (eqb b 128) refl refl refl refl e
   where
-    long : (p q : Bool) → eqb c 128 ≡ p → eqb b 128 ≡ q → (p && q) ≡ true → ((c ≡ 64) × (b ≡ 192)) ⊎ ((c ≡ 128) × (b ≡ 128))
-    long true true p q e = inr (eqb-true c 128 p, eqb-true b 128 q)
+    these : {x y : ℕ} → c ≡ x → b ≡ y → Sizes x y → Sizes c b
+    these p q S = rw (p, q) S
+
+    long : (p q : Bool) → eqb c 128 ≡ p → eqb b 128 ≡ q → (p && q) ≡ true → Sizes c b
+    long true true p q e = these (eqb-true c 128 p) (eqb-true b 128 q) long-sizes
     long true false p q e = absurd (true≢false (sym e))
     long false q′ p q e = absurd (true≢false (sym e))
 
-    short : (p q r s : Bool) → eqb c 64 ≡ p → eqb b 192 ≡ q → eqb c 128 ≡ r → eqb b 128 ≡ s → (p && q || r && s) ≡ true
-        → ((c ≡ 64) × (b ≡ 192)) ⊎ ((c ≡ 128) × (b ≡ 128))
-    short true true r s p q u v e = inl (eqb-true c 64 p, eqb-true b 192 q)
+    short : (p q r s : Bool) → eqb c 64 ≡ p → eqb b 192 ≡ q → eqb c 128 ≡ r → eqb b 128 ≡ s → (p && q || r && s) ≡ true → Sizes c b
+    short true true r s p q u v e = these (eqb-true c 64 p) (eqb-true b 192 q) short-sizes
     short true false r s p q u v e = long r s u v e
     short false q′ r s p q u v e = long r s u v e
 
 record CompressFit (chaining block counter salt : ℕ) : Type 0 where
   salt-fits : salt ≡ 16
-  some : 0 < chaining
-  square-fits : chaining + block ≡ 256
-  parts-fit : 256 ≡ chaining * (256 / chaining)
-  counters-fit : counter + 16 * roundCount chaining ≤ 2 ^ 64
+  sizes-are : Sizes chaining block
+  counter-fits : counter ≤ 2 ^ 64 - 161
 
 compress-fit : (chaining block counter salt : ℕ) → compressRefusal chaining block counter salt ≡ 0 → CompressFit chaining block counter salt
 unfolding compressRefusal
@@ -173,14 +173,11 @@ compress-fit chaining block counter salt e =
     let a = none-first 2 (not (eqb salt 16)) ((6 when not (sizesFit chaining block)) ∷ (7 when high) ∷ []) (λ z. omega arith) e in
     let b = none-first 6 (not (sizesFit chaining block)) ((7 when high) ∷ []) (λ z. omega arith) (a .1) in
     let c = none-first 7 high [] (λ z. omega arith) (b .1) in
-    let k : counter ≤ 2 ^ 64 - 161 = ltb-false (2 ^ 64 - 161) counter (c .0) in
-    let s : salt ≡ 16 = eqb-true salt 16 (not-false (eqb salt 16) (a .0)) in
-    ⊎-elim
-    (λ (p : (chaining ≡ 64) × (block ≡ 192)). subst (λ (n : ℕ). CompressFit n block counter salt) (sym (p .0))
-    (record { salt-fits = s; some = omega arith; square-fits = omega arith; parts-fit = refl; counters-fit = omega arith }))
-    (λ (p : (chaining ≡ 128) × (block ≡ 128)). subst (λ (n : ℕ). CompressFit n block counter salt) (sym (p .0))
-    (record { salt-fits = s; some = omega arith; square-fits = omega arith; parts-fit = refl; counters-fit = omega arith }))
-    (sizes-fit chaining block (not-false (sizesFit chaining block) (b .0)))
+    record {
+      salt-fits = eqb-true salt 16 (not-false (eqb salt 16) (a .0));
+      sizes-are = sizes-fit chaining block (not-false (sizesFit chaining block) (b .0));
+      counter-fits = ltb-false (2 ^ 64 - 161) counter (c .0);
+    }
 
 -- ---- what a refusal r that the code has means to it
 
@@ -215,16 +212,16 @@ module _ (chaining block : List ℕ) (counter : ℕ) (salt : List ℕ) (r : ℕ)
   compress-salt = omega (arith, fits .salt-fits)
 
   pub compress-some : 0 < length chaining
-  compress-some = fits .some
+  compress-some = fits .sizes-are .some
 
   pub compress-square : length chaining + length block ≡ 256
-  compress-square = fits .square-fits
+  compress-square = fits .sizes-are .square
 
   pub compress-parts : 256 ≡ length chaining * (256 / length chaining)
-  compress-parts = fits .parts-fit
+  compress-parts = fits .sizes-are .parts
 
   pub compress-counters : (n : ℕ) → n ≡ roundCount (length chaining) → counter + 16 * n ≤ 2 ^ 64
-  compress-counters n c = omega (arith, fits .counters-fit)
+  compress-counters n c = omega (arith, fits .sizes-are .rounds-most, fits .counter-fits)
 
   pub compress-done : (n : ℕ) (x last : List ℕ) → n ≡ roundCount (length chaining) → x ≡ tab 16 (λ k. getD salt (0 + k) 0)
       → last ≡ compress (length chaining) n (keysFrom counter) x chaining block → last ≡ compressLeaves chaining block counter salt

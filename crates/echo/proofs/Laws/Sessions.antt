@@ -1,26 +1,23 @@
 -- Laws of the session's definitions, over plain records. Assumes nothing.
 use mathlib.Core.Path.{_≡_, refl, sym, ap, _∙_, subst}
 use mathlib.Core.Bool.{Bool, true, false, not, _&&_, true≢false}
-use mathlib.Core.Logic.{⊎-elim}
 use mathlib.Core.List.{List, _++_}
 use Prim.Native.Nat.{ℕ, _+_, _-_, _/_, _%_, _<_, _≤_}
-use native.Mathlib.Nat.{zero-add}
 use native.Mathlib.Omega.{arith}
 use borrow.Author.Tests.{eq-eqb, le-leb, le-ltb, leb-true, lt-leb, lt-ltb, ne-eqb, not-false, not-true}
 use lib.Dec.{leb}
-use lib.ListN.{drop, getD, length, length-append, length-drop, replicate, take, take-append-drop}
-use lib.Seq.{getD-drop, length-take-le, take-append-le}
+use lib.ListN.{drop, getD, length, replicate, take, take-append-drop}
+use lib.Seq.{length-take-le, take-append-le}
 use Rattle.aes_round.specs.Bytes.{tab}
-use Rattle.aes_round.proofs.Laws.Bytes.{lt-or-le, same-list}
 use Rattle.echo.specs.declared.session.Answer.{Answer}
 use Rattle.echo.specs.declared.session.Session.{Session}
 use Rattle.echo.specs.Digest.{initial}
 use Rattle.echo.specs.Families.{blockSize, chainingSize}
 use Rattle.echo.specs.Placed.{Placed}
-use Rattle.echo.specs.Session.{addAnswer, addBytes, addRefusal, admitted, allZero, blank, finalChaining, isSession, limit, made}
-use Rattle.echo.specs.Session.{openAnswer, openRefusal, readAnswer, readLeaves, readRefusal, sessionDigest}
+use Rattle.echo.specs.Session.{addAnswer, addBytes, addRefusal, admitted, allZero, blank, finalChaining, isSession, limit, made, openAnswer}
+use Rattle.echo.specs.Session.{openRefusal, readAnswer, readLeaves, readRefusal, sessionDigest}
 use Rattle.echo.proofs.Laws.Families.{sizes}
-use Rattle.echo.proofs.Laws.Joined.{first-part, second-part}
+use Rattle.echo.proofs.Laws.Placed.{placed-front}
 use Rattle.echo.proofs.Laws.Words.{sixteen-are}
 
 -- ---- which records are sessions: the answers of is_session, by the tests a, w and v that the code made
@@ -54,28 +51,23 @@ pub both : (a b : Bool) → (a && b) ≡ true → (a ≡ true) × (b ≡ true)
 both true b e = (refl, e)
 both false b e = absurd (true≢false (sym e))
 
+most-bits : (h : ℕ) → admitted h ≡ true → h ≤ 512
+unfolding admitted
+most-bits h e = leb-true h 512 (both (leb h 512) _ (both (leb 128 h) _ e .1) .0)
+
 pub record SessionFits (s : Session) : Type 0 where
   pub admits : admitted (s .bits) ≡ true
-  pub bits-most : s .bits ≤ 512
-  pub taken-most : s .taken ≤ limit
-  pub rest-zero : allZero (drop (s .taken % blockSize (s .bits)) (s .waiting)) ≡ true
-  pub room-zero : allZero (drop (chainingSize (s .bits)) (s .chaining)) ≡ true
+  pub taken-fits : s .taken ≤ limit
+  pub waiting-zero : allZero (drop (s .taken % blockSize (s .bits)) (s .waiting)) ≡ true
+  pub chaining-zero : allZero (drop (chainingSize (s .bits)) (s .chaining)) ≡ true
 
 pub session-fits : (s : Session) → isSession s ≡ true → SessionFits s
-unfolding isSession admitted
+unfolding isSession
 session-fits s e =
     let p = both (admitted (s .bits)) _ e in
-    let q = both (leb 128 (s .bits)) _ (p .0) in
-    let r = both (leb (s .bits) 512) _ (q .1) in
-    let t = both (leb (s .taken) limit) _ (p .1) in
-    let u = both (allZero (drop (s .taken % blockSize (s .bits)) (s .waiting))) _ (t .1) in
-    record {
-      admits = p .0;
-      bits-most = leb-true (s .bits) 512 (r .0);
-      taken-most = leb-true (s .taken) limit (t .0);
-      rest-zero = u .0;
-      room-zero = u .1;
-    }
+    let q = both (leb (s .taken) limit) _ (p .1) in
+    let r = both (allZero (drop (s .taken % blockSize (s .bits)) (s .waiting))) _ (q .1) in
+    record { admits = p .0; taken-fits = leb-true (s .taken) limit (q .0); waiting-zero = r .0; chaining-zero = r .1 }
 
 -- what code that found a session by the test a knows of it
 module _ (s : Session) (a : Bool) (e : a ≡ isSession s) (holds : not a ≡ false) where
@@ -85,14 +77,14 @@ module _ (s : Session) (a : Bool) (e : a ≡ isSession s) (holds : not a ≡ fal
   fits : SessionFits s
   fits = session-fits s is-one
 
-  pub taken-most : s .taken ≤ limit
-  taken-most = fits .taken-most
-
   pub bits-most : s .bits ≤ 512
-  bits-most = fits .bits-most
+  bits-most = most-bits (s .bits) (fits .admits)
+
+  pub taken-most : s .taken ≤ limit
+  taken-most = fits .taken-fits
 
   pub rest-zero : allZero (drop (s .taken % blockSize (s .bits)) (s .waiting)) ≡ true
-  rest-zero = fits .rest-zero
+  rest-zero = fits .waiting-zero
 
 -- ---- what adding answers
 
@@ -123,8 +115,7 @@ module _ (h : ℕ) (salt : List ℕ) (a : Bool) (e : a ≡ admitted h) where
 
   module _ (holds : not a ≡ false) where
     pub admitted-most : h ≤ 512
-    unfolding admitted
-    admitted-most = leb-true h 512 (both (leb h 512) _ (both (leb 128 h) _ (sym e ∙ not-false a holds) .1) .0)
+    admitted-most = most-bits h (sym e ∙ not-false a holds)
 
     pub open-2 : (length salt ≡ 16 → ⊥) → (s : Session) → s ≡ blank → _≡_ {A = Answer} (record { refusal = 2; session = s }) (openAnswer h salt)
     unfolding openAnswer openRefusal
@@ -147,23 +138,6 @@ cut s v l h e =
     ∙ take-append-le (s .bits / 8) (take (chainingSize (s .bits)) v) (drop (chainingSize (s .bits)) v)
     (omega (arith, length-take-le (chainingSize (s .bits)) v (omega arith)))
     ∙ ap (take (s .bits / 8)) e
-
--- bytes placed at the front of room
-placed-front : (room w r : List ℕ) (n : ℕ) → length w ≡ n → n ≤ length room → Placed room 0 w n r → r ≡ w ++ drop n room
-placed-front room w r n lw l P =
-    same-list (length room) r (w ++ drop n room) (P .long) (length-append w (drop n room) ∙ omega (arith, lw, length-drop n room))
-    (λ k h. ⊎-elim (front k) (rest k) (lt-or-le k n))
-  where
-    front : (k : ℕ) → k < n → getD r k 0 ≡ getD (w ++ drop n room) k 0
-    front k lt = ap (λ (i : ℕ). getD r i 0) (sym (zero-add k)) ∙ P .inside k lt ∙ sym (first-part n w (drop n room) lw k lt)
-
-    on : (k : ℕ) → n ≤ k → n + (k - n) ≡ k
-    on k g = omega arith
-
-    rest : (k : ℕ) → n ≤ k → getD r k 0 ≡ getD (w ++ drop n room) k 0
-    rest k g =
-        P .behind k (omega arith) ∙ ap (λ (i : ℕ). getD room i 0) (sym (on k g)) ∙ sym (getD-drop n room (k - n) 0)
-        ∙ sym (ap (λ (i : ℕ). getD (w ++ drop n room) i 0) (sym (on k g)) ∙ second-part n w (drop n room) lw (k - n))
 
 module _ (s : Session) (room : List ℕ) (a : Bool) (e : a ≡ isSession s) where
   pub read-3 : not a ≡ true → _≡_ {A = Answer} (record { refusal = 3; session = s }) (readAnswer s (length room))

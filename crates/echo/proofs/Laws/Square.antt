@@ -14,9 +14,9 @@ use Rattle.aes_round.specs.Rounds.{aesRound, aesRoundBack}
 use Rattle.aes_round.proofs.Laws.Array.{array-bytes, array-ext, entry-array, entry-byte, is-array}
 use Rattle.aes_round.proofs.Laws.Bytes.{getD-tab, is-tab, tab-bytes}
 use Rattle.aes_round.proofs.Laws.Mixing.{backward-bytes, forward-bytes}
-use Rattle.aes_round.proofs.Laws.Rounds.{length-round, length-round-back, mix-columns-back-undone, mix-columns-bytes}
-use Rattle.aes_round.proofs.Laws.Rounds.{mix-columns-undone, round-back-bytes, round-back-undone}
-use Rattle.aes_round.proofs.Laws.Rounds.{round-bytes, round-undone, shift-back-bytes, shift-back-undone, shift-bytes, shift-undone}
+use Rattle.aes_round.proofs.Laws.Rounds.{length-round, length-round-back, mix-columns-back-undone, mix-columns-bytes, mix-columns-undone}
+use Rattle.aes_round.proofs.Laws.Rounds.{round-back-bytes, round-back-undone, round-bytes, round-undone, shift-back-bytes, shift-back-undone}
+use Rattle.aes_round.proofs.Laws.Rounds.{shift-bytes, shift-undone}
 use Rattle.echo.specs.Square.{bigMixColumns, bigMixColumnsBack, bigRound, bigRoundBack, bigShiftRows, bigShiftRowsBack, bigSubWords}
 use Rattle.echo.specs.Square.{bigSubWordsBack, counterKey, keysFrom, rounds, roundsBack, word}
 
@@ -156,6 +156,7 @@ module _ (C : ℕ) (salt s₀ : List ℕ) where
   unfolding Ran rounds
   ran-none = refl
 
+  -- the premises stand in the order in which `search` finds them within its bounds
   pub ran-more : (n : ℕ) (s a b c : List ℕ) → Ran n s → b ≡ bigShiftRows a → c ≡ bigMixColumns b → a ≡ bigSubWords (keysFrom (C + 16 * n)) salt s
       → Ran (n + 1) c
   unfolding Ran rounds bigRound bigSubWords

@@ -12,7 +12,7 @@ use Rattle.aes_round.proofs.Laws.Xor.{length-xor}
 use Rattle.echo.specs.Compression.{bigFinal, compress}
 use Rattle.echo.specs.Digest.{block, blockCount, counterAt, iterate}
 use Rattle.echo.specs.Square.{keysFrom}
-use Rattle.echo.proofs.Laws.Counting.{div-on, div-full, div-more, mod-full, mod-more}
+use Rattle.echo.proofs.Laws.Counting.{div-full, div-more, div-on, mod-full, mod-more}
 
 -- ---- the iteration
 

@@ -38,7 +38,7 @@ module _ (xs : List ℕ) (i : ℕ) (r : Bool) (e : allZero (drop i xs) ≡ r) wh
   unfolding allZero
   zero-end h k = let l : i ≡ length xs = omega arith in sym (rw (l, drop-length)) ∙ e
 
--- ---- the place of the next byte, by a block size b that the code computed
+-- ---- the place of the next byte; b is a block size that the code computed
 
 pub some-block : (h b : ℕ) → b ≡ blockSize h → 0 < b
 some-block h b size = omega (arith, block-pos h)
@@ -53,6 +53,7 @@ module _ (h n at : ℕ) (place : at ≡ n % blockSize h) where
   pub place-within : (w : List ℕ) → length w ≡ 192 → at < length w
   place-within w lw = omega (arith, place-small)
 
+-- the same of a place that the code computed
 module _ (h n b : ℕ) (size : b ≡ blockSize h) where
   same-place : n % b ≡ n % blockSize h
   same-place = ap (λ (x : ℕ). n % x) size
@@ -139,8 +140,8 @@ module _ (bits taken : ℕ) (salt v₀ w₀ piece : List ℕ) where
 -- ---- the waiting block compressed, by sizes c and b and a round count n that the code computed
 
 module _ (bits c : ℕ) (p : c ≡ chainingSize bits) where
-  pub rounds-fit : (counter n : ℕ) → n ≡ roundCount c → counter ≤ 2 ^ 64 - 161 → counter + 16 * n ≤ 2 ^ 64
-  rounds-fit counter n r k = let S = sizes bits in omega (arith, ap roundCount p)
+  pub lent-counters : (counter n : ℕ) → n ≡ roundCount c → counter ≤ 2 ^ 64 - 161 → counter + 16 * n ≤ 2 ^ 64
+  lent-counters counter n r k = let S = sizes bits in omega (arith, ap roundCount p)
 
   module _ (v : List ℕ) (lv : length v ≡ 128) where
     pub lent-within : c ≤ length v

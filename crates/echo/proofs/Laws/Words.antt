@@ -13,7 +13,7 @@ use Rattle.aes_round.proofs.Laws.Bytes.{getD-tab, is-tab, tab-ext}
 use Rattle.aes_round.proofs.Laws.Fill.{Filled, fill-all, fill-none}
 use Rattle.aes_round.proofs.Laws.Rounds.{entry-shift, entry-shift-back, length-shift, length-shift-back}
 use Rattle.echo.specs.Placed.{Placed}
-use Rattle.echo.specs.Square.{bigShiftRows, bigShiftRowsBack, word}
+use Rattle.echo.specs.Square.{bigShiftRows, bigShiftRowsBack, bigSubWords, bigSubWordsBack, word}
 use Rattle.echo.proofs.Laws.Placed.{fill-part}
 
 -- a word by the bytes that the code reads
@@ -75,6 +75,7 @@ module _ (f : ℕ → List ℕ) (l : List ℕ) where
 -- ---- BIG.SubWords and its way back: word after word goes through f, with its subkey and the salt
 
 module _ (f : List ℕ → List ℕ → List ℕ → List ℕ) (key : ℕ → List ℕ) (salt l : List ℕ) where
+  -- the first j words are through
   pub Through : ℕ → List ℕ → Type 0
   Through = Words (λ i. f (word l i) (key i) salt) l
 
@@ -89,19 +90,30 @@ module _ (f : List ℕ → List ℕ → List ℕ → List ℕ) (key : ℕ → Li
       next-word _ l j s t r T h (subst (λ (n : ℕ). Placed s (16 * j) t n r) lt P)
       (e ∙ ap₂ (λ (x y : List ℕ). f x y salt) (p ∙ old-word _ l j s T) q)
 
-  pub all-through : (j : ℕ) (s : List ℕ) → Through j s → 16 ≤ j → s ≡ array 16 (λ i b. getD (f (word l i) (key i) salt) b 0)
+  all-through : (j : ℕ) (s : List ℕ) → Through j s → 16 ≤ j → s ≡ array 16 (λ i b. getD (f (word l i) (key i) salt) b 0)
   unfolding Through
   all-through = all-words _ l
 
+-- two rounds of the AES and two back, with the subkeys k and salt
 abbrev pub forth : List ℕ → List ℕ → List ℕ → List ℕ
 forth w k salt = aesRound (aesRound w k) salt
 
 abbrev pub back : List ℕ → List ℕ → List ℕ → List ℕ
 back w k salt = aesRoundBack (aesRoundBack w salt) k
 
+module _ (key : ℕ → List ℕ) (salt l : List ℕ) (j : ℕ) (s : List ℕ) where
+  pub through-forth : Through forth key salt l j s → 16 ≤ j → s ≡ bigSubWords key salt l
+  unfolding bigSubWords
+  through-forth = all-through forth key salt l j s
+
+  pub through-back : Through back key salt l j s → 16 ≤ j → s ≡ bigSubWordsBack key salt l
+  unfolding bigSubWordsBack
+  through-back = all-through back key salt l j s
+
 -- ---- BIG.ShiftRows and its way back: word j comes out of l from the place m j (mod 16)
 
 module _ (m : ℕ) (l : List ℕ) where
+  -- the first j words are moved
   pub Moved : ℕ → List ℕ → Type 0
   Moved = Words (λ i. tab 16 (λ b. getD l (16 * (m * i % 16) + b) 0)) l
 

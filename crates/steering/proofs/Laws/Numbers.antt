@@ -1,9 +1,9 @@
 -- Numbers as bytes, the most significant first: reading them in parts, and back. Assumes nothing.
 use mathlib.Core.Path.{_≡_, refl, sym, ap, ap₂, _∙_}
 use mathlib.Core.List.{List, [], _∷_, _++_}
-use Prim.Native.Nat.{ℕ, zero, suc, _+_, _*_, _/_, _%_, _^_, _<_, _≤_, _-_}
-use native.Mathlib.Nat.{add-assoc, add-mul, add-zero, div-eq-of-lt, mod-eq-of-lt, mul-add-div-right, mul-add-mod-self-right}
-use native.Mathlib.Nat.{mul-assoc, mul-le-mul-right, pow-succ', suc-mul, zero-add, zero-mul}
+use Prim.Native.Nat.{ℕ, zero, suc, _+_, _*_, _/_, _%_, _^_, _<_, _≤_}
+use native.Mathlib.Nat.{add-assoc, add-mul, add-zero, div-eq-of-lt, mod-eq-of-lt, mul-add-div-right, mul-add-mod-self-right, mul-assoc}
+use native.Mathlib.Nat.{mul-le-mul-right, pow-succ', suc-mul, zero-add, zero-mul}
 use native.Mathlib.Numerals.{add-one}
 use native.Mathlib.Omega.{arith}
 use lib.ListN.{drop, getD, length, length-append, length-drop, take}

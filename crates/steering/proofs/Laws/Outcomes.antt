@@ -5,8 +5,9 @@ use mathlib.Core.Logic.{_⊎_, _↔_, inl, inr, ⊎-elim}
 use mathlib.Core.List.{List, [], _∷_, _++_, append-assoc}
 use Prim.Native.Nat.{ℕ, zero, suc, _+_, _-_, _^_, _<_, _≤_}
 use native.Mathlib.Nat.{pow-le-pow-right}
+use native.Mathlib.Numerals.{add-one}
 use native.Mathlib.Omega.{arith}
-use borrow.Author.Tests.{eqb-false, eqb-true, ltb-false, ltb-true}
+use borrow.Author.Tests.{ltb-false, ltb-true}
 use lib.Dec.{eqb, lit<, ltb}
 use lib.ListN.{drop, getD, length, length-append, length-drop, length-take, take}
 use lib.Seq.{drop-cons, drop-length, getD-append-add}
@@ -19,7 +20,7 @@ use Rattle.steering.specs.declared.reading.Reading.the-variants.{End, Fo
 use Rattle.steering.specs.declared.records.Record.{Record}
 use Rattle.steering.proofs.Laws.Complete.{all-refused, allInFront, complete, parse-through}
 use Rattle.steering.proofs.Laws.Numbers.{below, bytes-drop, bytes-take}
-use Rattle.steering.proofs.Laws.Reading.{at-end, cut-short, ended, found, too-long, unknown-kind, whole}
+use Rattle.steering.proofs.Laws.Reading.{Why, cut-short, ended, found, stopped, too-long, unknown-kind}
 use Rattle.steering.proofs.Laws.Tables.{begins, there}
 
 -- ---- a record that was read fits its fields
@@ -42,49 +43,6 @@ record-fits kind body b =
     (either-fits (eqb kind 3) _ _ (number-fits 2 0 body b)
     (either-fits (eqb kind 4) _ _ (number-fits 4 0 body b)
     (number-fits 8 0 body b, number-fits 8 8 body b, number-fits 8 16 body b, number-fits 8 24 body b))))
-
--- ---- the byte that stops a parse
-
--- why it is refused, with the bytes that follow it
-abbrev pub Why : ℕ → ℕ → List ℕ → Type 0
-Why number kind rest = ((number ≡ 9) × (bodyLength kind ≡ 0)) ⊎ ((number ≡ 10) × (0 < bodyLength kind) × (length rest < bodyLength kind))
-
--- a reading that is refused within a table that is not too long
-module _ (t : List ℕ) (place : ℕ) (within : place ≤ length t) (short : length t ≤ 4096) where
-  abbrev kind : ℕ
-  kind = getD t place 0
-
-  pub record Stop (number at : ℕ) : Type 0 where
-    pub inside : place < length t
-    pub at-kind : at ≡ place
-    pub why : Why number kind (drop (suc place) t)
-
-  stop : (number at : ℕ) → Refused number at ≡ readAt t place → Stop number at
-  stop number at e = by (eqb place (length t)) refl
-    where
-      rest-long : length (drop (suc place) t) ≡ length t - (place + 1)
-      rest-long = omega (arith, length-drop (suc place) t)
-
-      in-record : (place ≡ length t → ⊥) → (x y : Bool) → eqb (bodyLength kind) 0 ≡ x → ltb (length t - (place + 1)) (bodyLength kind) ≡ y → Stop number at
-      in-record n true y p q =
-          let z : Refused number at ≡ Refused 9 place = e ∙ sym (unknown-kind t place within short n _ refl (eqb-true _ _ p)) in
-          record { inside = omega arith; at-kind = cc; why = inl ((cc), eqb-true _ _ p) }
-      in-record n false true p q =
-          let none = eqb-false (bodyLength kind) 0 p in
-          let few = ltb-true (length t - (place + 1)) (bodyLength kind) q in
-          let z : Refused number at ≡ Refused 10 place = e ∙ sym (cut-short t place within short n _ refl none few) in
-          record { inside = omega arith; at-kind = cc; why = inr ((cc), omega arith, omega (arith, rest-long)) }
-      in-record n false false p q =
-          let z = e ∙ sym (whole t place within short n _ refl (eqb-false _ _ p) _ _ refl refl (ltb-false _ _ q)) in
-          let w : _≡_ {A = ℕ} 0 1 = cc in
-          absurd (omega arith)
-
-      by : (x : Bool) → eqb place (length t) ≡ x → Stop number at
-      by true p =
-          let z : Refused number at ≡ End = e ∙ sym (at-end t place within short (eqb-true _ _ p)) in
-          let w : _≡_ {A = ℕ} 0 1 = cc in
-          absurd (omega arith)
-      by false p = in-record (eqb-false _ _ p) (eqb (bodyLength kind) 0) (ltb (length t - (place + 1)) (bodyLength kind)) refl refl
 
 -- ---- what a parse comes to, from a place on
 
@@ -155,13 +113,13 @@ module _ (t : List ℕ) (b : AreBytes t) (short : length t ≤ 4096) where
       in-front place next r e (parseFrom n t next) (again next (omega (arith, H .in-table, H .next-is)) (omega (arith, H .next-is)))
   one-more n place within fuel again End e = (ap (λ (j : ℕ). drop j t) (ended t place e) ∙ drop-length t, tt)
   one-more n place within fuel again (Refused number at) e =
-      let S = stop t place within short number at e in
+      let S = stopped t place within short number at e in
       record {
         records = [];
         kind = getD t place 0;
-        rest = drop (suc place) t;
+        rest = drop (place + 1) t;
         fit = tt;
-        splits = drop-cons t place 0 (S .inside);
+        splits = drop-cons t place 0 (S .inside) ∙ ap (λ (k : ℕ). getD t place 0 ∷ drop k t) (sym (add-one place));
         there = omega (arith, S .at-kind);
         why = S .why;
       }
@@ -260,8 +218,8 @@ module _ (t : List ℕ) (b : AreBytes t) where
       not-8 kind rest w = ⊎-elim (λ p. omega (arith, p .0)) (λ p. omega (arith, p .0)) w
 
   -- the byte behind some records that stops the parse
-  stopped : (number place : ℕ) → (number ≡ 8 → ⊥) → parse t ≡ refused number place → (length t ≤ 4096) × Stopped t 0 number place
-  stopped number place n e =
+  stops-at : (number place : ℕ) → (number ≡ 8 → ⊥) → parse t ≡ refused number place → (length t ≤ 4096) × Stopped t 0 number place
+  stops-at number place n e =
       ⊎-elim (λ (o : (4096 < length t) × (refused 8 0 ≡ refused number place)). let p = o .1 in absurd (n (cc)))
       (λ (o : (length t ≤ 4096) × Stopped t 0 number place). o)
       (what (refused number place) e)
@@ -271,7 +229,7 @@ module _ (t : List ℕ) (b : AreBytes t) where
     where
       there : parse t ≡ refused 9 place → StopsAt t place (λ kind rest. bodyLength kind ≡ 0)
       there e =
-          let S = stopped 9 place (λ z. omega arith) e in
+          let S = stops-at 9 place (λ z. omega arith) e in
           let unknown : bodyLength (S .1 .kind) ≡ 0 = ⊎-elim (λ p. p .1) (λ p. absurd (omega (arith, p .0))) (S .1 .why) in
           (S .1 .records, S .1 .kind, S .1 .rest, S .1 .fit, S .1 .splits, omega (arith, S .1 .there), unknown, S .0)
 
@@ -285,7 +243,7 @@ module _ (t : List ℕ) (b : AreBytes t) where
     where
       there : parse t ≡ refused 10 place → StopsAt t place (λ kind rest. (0 < bodyLength kind) × (length rest < bodyLength kind))
       there e =
-          let S = stopped 10 place (λ z. omega arith) e in
+          let S = stops-at 10 place (λ z. omega arith) e in
           let cut : (0 < bodyLength (S .1 .kind)) × (length (S .1 .rest) < bodyLength (S .1 .kind)) =
           ⊎-elim (λ p. absurd (omega (arith, p .0))) (λ p. (p .1, p .2)) (S .1 .why) in
           (S .1 .records, S .1 .kind, S .1 .rest, S .1 .fit, S .1 .splits, omega (arith, S .1 .there), cut, S .0)

@@ -1,12 +1,13 @@
 -- Each case of reading at a place, from the tests that lead to it. Assumes nothing.
-use mathlib.Core.Path.{_≡_, refl, sym, _∙_}
+use mathlib.Core.Path.{_≡_, refl, sym, subst, _∙_}
 use mathlib.Core.Bool.{Bool, true, false}
+use mathlib.Core.Logic.{_⊎_, inl, inr, ⊎-elim}
 use mathlib.Core.List.{List}
 use Prim.Native.Nat.{ℕ, _+_, _-_, _^_, _<_, _≤_}
 use native.Mathlib.Omega.{arith}
 use borrow.Author.Tests.{eq-eqb, eqb-false, eqb-true, le-ltb, lt-ltb, ltb-false, ltb-true, ne-eqb}
 use lib.Dec.{eqb, ltb}
-use lib.ListN.{drop, getD, length, take}
+use lib.ListN.{drop, getD, length, length-drop, take}
 use Rattle.steering.specs.Reading.{readAt, recordAt}
 use Rattle.steering.specs.Records.{bodyLength, recordOf}
 use Rattle.steering.specs.declared.reading.Reading.{Reading}
@@ -56,63 +57,65 @@ pub record Here (t : List ℕ) (place : ℕ) (r : Record) (next : ℕ) : Type 0 
   pub in-table : place + 1 + bodyLength (getD t place 0) ≤ length t
   pub record-is : r ≡ recordOf (getD t place 0) (take (bodyLength (getD t place 0)) (drop (place + 1) t))
 
+-- why a record is refused, by the kind byte and the bytes that follow it
+abbrev pub Why : ℕ → ℕ → List ℕ → Type 0
+Why number kind rest = ((number ≡ 9) × (bodyLength kind ≡ 0)) ⊎ ((number ≡ 10) × (0 < bodyLength kind) × (length rest < bodyLength kind))
+
+-- what stands where a record is refused
+pub record Stop (t : List ℕ) (place number at : ℕ) : Type 0 where
+  pub inside : place < length t
+  pub at-kind : at ≡ place
+  pub why : Why number (getD t place 0) (drop (place + 1) t)
+
+-- what a reading says of the table; a refusal may also be that of the place or of the whole table
+abbrev Says : List ℕ → ℕ → Reading → Type 0
+Says t place (Found r next) = Here t place r next
+Says t place End = place ≡ length t
+Says t place (Refused number at) = (length t < place) ⊎ ((4096 < length t) ⊎ Stop t place number at)
+
 module _ (t : List ℕ) (place : ℕ) where
-  pub ended : End ≡ readAt t place → place ≡ length t
-  ended e = by (ltb (length t) place) (ltb 4096 (length t)) (eqb place (length t)) refl refl refl
+  says : (x : Reading) → x ≡ readAt t place → Says t place x
+  says x e = by (ltb (length t) place) (ltb 4096 (length t)) (eqb place (length t)) refl refl refl
     where
-      never : {number at : ℕ} → End ≡ Refused number at → place ≡ length t
-      never z = let w : _≡_ {A = ℕ} 0 1 = cc in absurd (omega arith)
+      kind : ℕ
+      kind = getD t place 0
 
-      at : (place ≡ length t → ⊥) → length t ≤ 4096 → place ≤ length t → place ≡ length t
-      at n b a = in-record (eqb (bodyLength kind) 0) (ltb (length t - (place + 1)) (bodyLength kind)) refl refl
-        where
-          kind : ℕ
-          kind = getD t place 0
+      this : (y : Reading) → y ≡ readAt t place → Says t place y → Says t place x
+      this y f S = subst (Says t place) (f ∙ sym e) S
 
-          in-record : (x y : Bool) → eqb (bodyLength kind) 0 ≡ x → ltb (length t - (place + 1)) (bodyLength kind) ≡ y → place ≡ length t
-          in-record true y p q = never (e ∙ sym (unknown-kind t place a b n _ refl (eqb-true _ _ p)))
-          in-record false true p q = never (e ∙ sym (cut-short t place a b n _ refl (eqb-false _ _ p) (ltb-true _ _ q)))
-          in-record false false p q =
-              let z = e ∙ sym (whole t place a b n _ refl (eqb-false _ _ p) _ _ refl refl (ltb-false _ _ q)) in
-              let w : _≡_ {A = ℕ} 0 1 = cc in
-              absurd (omega arith)
+      record-says : (place ≡ length t → ⊥) → length t ≤ 4096 → place ≤ length t → (x₁ x₂ : Bool) → eqb (bodyLength kind) 0 ≡ x₁
+          → ltb (length t - (place + 1)) (bodyLength kind) ≡ x₂ → Says t place x
+      record-says c b a true x₂ p q =
+          let none = eqb-true (bodyLength kind) 0 p in
+          this _ (unknown-kind t place a b c _ refl none) (inr (inr (record { inside = omega arith; at-kind = refl; why = inl (refl, none) })))
+      record-says c b a false true p q =
+          let some = eqb-false (bodyLength kind) 0 p in
+          let few = ltb-true (length t - (place + 1)) (bodyLength kind) q in
+          let cut : Why 10 kind (drop (place + 1) t) = inr (refl, omega arith, omega (arith, length-drop (place + 1) t)) in
+          this _ (cut-short t place a b c _ refl some few) (inr (inr (record { inside = omega arith; at-kind = refl; why = cut })))
+      record-says c b a false false p q =
+          let some = eqb-false _ _ p in
+          let fits = ltb-false _ _ q in
+          this _ (whole t place a b c _ refl some _ _ refl refl fits)
+          (record { not-long = b; known = omega arith; next-is = refl; in-table = omega arith; record-is = refl })
 
-      by : (x y z : Bool) → ltb (length t) place ≡ x → ltb 4096 (length t) ≡ y → eqb place (length t) ≡ z → place ≡ length t
-      by x y true p q s = eqb-true _ _ s
-      by true y false p q s = never (e ∙ sym (past-end t place (ltb-true _ _ p)))
-      by false true false p q s = never (e ∙ sym (too-long t place (ltb-false _ _ p) (ltb-true _ _ q)))
-      by false false false p q s = at (eqb-false _ _ s) (ltb-false _ _ q) (ltb-false _ _ p)
+      by : (x₁ x₂ x₃ : Bool) → ltb (length t) place ≡ x₁ → ltb 4096 (length t) ≡ x₂ → eqb place (length t) ≡ x₃ → Says t place x
+      by true x₂ x₃ p q r = this _ (past-end t place (ltb-true _ _ p)) (inl (ltb-true _ _ p))
+      by false true x₃ p q r = this _ (too-long t place (ltb-false _ _ p) (ltb-true _ _ q)) (inr (inl (ltb-true _ _ q)))
+      by false false true p q r = this _ (at-end t place (ltb-false _ _ p) (ltb-false _ _ q) (eqb-true _ _ r)) (eqb-true _ _ r)
+      by false false false p q r = record-says (eqb-false _ _ r) (ltb-false _ _ q) (ltb-false _ _ p) _ _ refl refl
 
-  module _ (r : Record) (next : ℕ) where
-    pub found : Found r next ≡ readAt t place → Here t place r next
-    found e = by (ltb (length t) place) (ltb 4096 (length t)) (eqb place (length t)) refl refl refl
-      where
-        never : {number at : ℕ} → Found r next ≡ Refused number at → Here t place r next
-        never z = let w : _≡_ {A = ℕ} 0 1 = cc in absurd (omega arith)
+  pub ended : End ≡ readAt t place → place ≡ length t
+  ended = says End
 
-        at : (place ≡ length t → ⊥) → length t ≤ 4096 → place ≤ length t → Here t place r next
-        at n b a = in-record (eqb (bodyLength kind) 0) (ltb (length t - (place + 1)) (bodyLength kind)) refl refl
-          where
-            kind : ℕ
-            kind = getD t place 0
+  pub stopped : place ≤ length t → length t ≤ 4096 → (number at : ℕ) → Refused number at ≡ readAt t place → Stop t place number at
+  stopped within short number at e =
+      ⊎-elim (λ (p : length t < place). absurd (omega arith))
+      (λ (o : (4096 < length t) ⊎ Stop t place number at). ⊎-elim (λ (p : 4096 < length t). absurd (omega arith)) (λ (S : Stop t place number at). S) o)
+      (says (Refused number at) e)
 
-            in-record : (x y : Bool) → eqb (bodyLength kind) 0 ≡ x → ltb (length t - (place + 1)) (bodyLength kind) ≡ y → Here t place r next
-            in-record true y p q = never (e ∙ sym (unknown-kind t place a b n _ refl (eqb-true _ _ p)))
-            in-record false true p q = never (e ∙ sym (cut-short t place a b n _ refl (eqb-false _ _ p) (ltb-true _ _ q)))
-            in-record false false p q =
-                let n0 : bodyLength kind ≡ 0 → ⊥ = eqb-false _ _ p in
-                let fits = ltb-false _ _ q in
-                let z = e ∙ sym (whole t place a b n _ refl n0 _ _ refl refl fits) in
-                record { not-long = b; known = omega arith; next-is = cc; in-table = omega arith; record-is = cc }
-
-        by : (x y z : Bool) → ltb (length t) place ≡ x → ltb 4096 (length t) ≡ y → eqb place (length t) ≡ z → Here t place r next
-        by true y s p q u = never (e ∙ sym (past-end t place (ltb-true _ _ p)))
-        by false true s p q u = never (e ∙ sym (too-long t place (ltb-false _ _ p) (ltb-true _ _ q)))
-        by false false true p q u =
-            let z = e ∙ sym (at-end t place (ltb-false _ _ p) (ltb-false _ _ q) (eqb-true _ _ u)) in
-            let w : _≡_ {A = ℕ} 0 1 = cc in
-            absurd (omega arith)
-        by false false false p q u = at (eqb-false _ _ u) (ltb-false _ _ q) (ltb-false _ _ p)
+  pub found : (r : Record) (next : ℕ) → Found r next ≡ readAt t place → Here t place r next
+  found r next = says (Found r next)
 
 -- ---- the same of what the code has: what it read at a place
 

@@ -1,6 +1,6 @@
 -- The body lengths of the kinds, and that a record has the kind and the body that it was read from. Assumes nothing.
 use mathlib.Core.Path.{_≡_, refl, sym, ap, _∙_}
-use mathlib.Core.Bool.{Bool, true, false, true≢false}
+use mathlib.Core.Bool.{Bool, true, false}
 use mathlib.Core.List.{List, _++_}
 use Prim.Native.Nat.{ℕ, _<_, _≤_}
 use native.Mathlib.Omega.{arith}
@@ -15,40 +15,17 @@ use Rattle.steering.specs.declared.records.Record.{Record}
 use Rattle.steering.specs.declared.records.Record.the-variants.{Floor, Hold, Node, Note}
 use Rattle.steering.proofs.Laws.Numbers.{bytes-at, parts}
 
-module _ (kind : ℕ) where
-  pub long-1 : kind ≡ 1 → 6 ≡ bodyLength kind
+module _ (kind : ℕ) (a : kind ≡ 1 → ⊥) (b : kind ≡ 2 → ⊥) (c : kind ≡ 3 → ⊥) (d : kind ≡ 4 → ⊥) where
+  pub unknown : (kind ≡ 5 → ⊥) → 0 ≡ bodyLength kind
   unfolding bodyLength
-  long-1 e = ap bodyLength (sym e)
+  unknown e = simp (ne-eqb kind 1 a, ne-eqb kind 2 b, ne-eqb kind 3 c, ne-eqb kind 4 d, ne-eqb kind 5 e)
 
-  pub long-2 : kind ≡ 2 → 2 ≡ bodyLength kind
-  unfolding bodyLength
-  long-2 e = ap bodyLength (sym e)
-
-  pub long-3 : kind ≡ 3 → 2 ≡ bodyLength kind
-  unfolding bodyLength
-  long-3 e = ap bodyLength (sym e)
-
-  pub long-4 : kind ≡ 4 → 4 ≡ bodyLength kind
-  unfolding bodyLength
-  long-4 e = ap bodyLength (sym e)
-
-  pub long-5 : kind ≡ 5 → 32 ≡ bodyLength kind
-  unfolding bodyLength
-  long-5 e = ap bodyLength (sym e)
-
-  module _ (a : kind ≡ 1 → ⊥) (b : kind ≡ 2 → ⊥) (c : kind ≡ 3 → ⊥) (d : kind ≡ 4 → ⊥) where
-    pub unknown : (kind ≡ 5 → ⊥) → 0 ≡ bodyLength kind
-    unfolding bodyLength
-    unknown e = simp (ne-eqb kind 1 a, ne-eqb kind 2 b, ne-eqb kind 3 c, ne-eqb kind 4 d, ne-eqb kind 5 e)
-
-    pub last-kind : 0 < bodyLength kind → kind ≡ 5
-    last-kind p = by (eqb kind 5) refl
-      where
-        by : (t : Bool) → eqb kind 5 ≡ t → kind ≡ 5
-        by true q = eqb-true kind 5 q
-        by false q =
-            let z : 0 ≡ bodyLength kind = unknown (λ e. let w : eqb 5 5 ≡ false = ap (λ (k : ℕ). eqb k 5) (sym e) ∙ q in absurd (true≢false w)) in
-            absurd (omega arith)
+  pub last-kind : 0 < bodyLength kind → kind ≡ 5
+  last-kind p = by (eqb kind 5) refl
+    where
+      by : (t : Bool) → eqb kind 5 ≡ t → kind ≡ 5
+      by true q = eqb-true kind 5 q
+      by false q = let z = unknown (eqb-false kind 5 q) in absurd (omega arith)
 
 -- ---- the record of each kind, by the numbers that were read out of its body
 
@@ -76,7 +53,8 @@ module _ (kind : ℕ) (body : List ℕ) where
 
   -- a note has 32 bytes
   pub note-reaches : (m : ℕ) → length body ≡ bodyLength kind → kind ≡ 5 → m ≤ 32 → m ≤ length body
-  note-reaches m l k h = omega (arith, long-5 kind k)
+  unfolding bodyLength
+  note-reaches m l k h = omega (arith, ap bodyLength k)
 
 -- a record of a kind and a body
 pub record Has (r : Record) (kind : ℕ) (body : List ℕ) : Type 0 where
@@ -89,28 +67,33 @@ module _ (kind : ℕ) (body : List ℕ) (long : length body ≡ bodyLength kind)
   only n e = bytes-at n 0 body (omega arith) b ∙ take-all n body (omega arith)
 
   node : kind ≡ 1 → Has (recordOf kind body) kind body
+  unfolding bodyLength
   node k =
       let e = sym (node-is kind body _ refl k) in
-      record { kind-is = ap kindOf e ∙ sym k; body-is = ap bodyOf e ∙ only 6 (long-1 kind k) }
+      record { kind-is = ap kindOf e ∙ sym k; body-is = ap bodyOf e ∙ only 6 (ap bodyLength (sym k)) }
 
   low-floor : kind ≡ 2 → Has (recordOf kind body) kind body
+  unfolding bodyLength
   low-floor k =
       let e = sym (low-is kind body _ refl k) in
-      record { kind-is = ap kindOf e ∙ sym k; body-is = ap bodyOf e ∙ only 2 (long-2 kind k) }
+      record { kind-is = ap kindOf e ∙ sym k; body-is = ap bodyOf e ∙ only 2 (ap bodyLength (sym k)) }
 
   high-floor : kind ≡ 3 → Has (recordOf kind body) kind body
+  unfolding bodyLength
   high-floor k =
       let e = sym (high-is kind body _ refl k) in
-      record { kind-is = ap kindOf e ∙ sym k; body-is = ap bodyOf e ∙ only 2 (long-3 kind k) }
+      record { kind-is = ap kindOf e ∙ sym k; body-is = ap bodyOf e ∙ only 2 (ap bodyLength (sym k)) }
 
   hold : kind ≡ 4 → Has (recordOf kind body) kind body
+  unfolding bodyLength
   hold k =
       let e = sym (hold-is kind body _ refl k) in
-      record { kind-is = ap kindOf e ∙ sym k; body-is = ap bodyOf e ∙ only 4 (long-4 kind k) }
+      record { kind-is = ap kindOf e ∙ sym k; body-is = ap bodyOf e ∙ only 4 (ap bodyLength (sym k)) }
 
   note : kind ≡ 5 → Has (recordOf kind body) kind body
+  unfolding bodyLength
   note k =
-      let l : length body ≡ 32 = long ∙ sym (long-5 kind k) in
+      let l : length body ≡ 32 = long ∙ ap bodyLength k in
       let e = sym (note-is kind body _ _ _ _ refl refl refl refl k) in
       let four : bodyOf (recordOf kind body) ≡ take 8 (drop 0 body) ++ take 8 (drop 8 body) ++ take 8 (drop 16 body) ++ take 8 (drop 24 body) =
       ap bodyOf e

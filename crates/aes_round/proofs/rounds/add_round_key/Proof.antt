@@ -1,5 +1,4 @@
 -- `add_round_key` meets its contract: the loop fills the word from the front. Assumes nothing.
-use mathlib.Core.Path.{refl}
 use Prim.Native.Nat.{_-_}
 use lib.ListN.{getD}
 use borrow.Author.Needs.{needs}
@@ -35,11 +34,11 @@ loop-less c = search needs
 
 loop-again : tie.Need-loop-again Inv-loop μ-loop
 unfolding xor
-loop-again c = fill-more _ _ _ _ _ _ (c .before .loop .inv) (search needs) refl
+loop-again c = search fill-more
 
 returns : tie.Need-returns Inv-loop μ-loop
 unfolding addRoundKey xorBytes
-returns c = fill-all _ _ _ _ _ (c .before .loop .inv) (search needs)
+returns c = search fill-all
 
 pub add-round-key-spec : {M : Type 1} → statement M
 add-round-key-spec =

@@ -1,5 +1,4 @@
 -- `look_up` meets its contract: the loop fills the word from the front, and a byte is a place of the table. Assumes nothing.
-use mathlib.Core.Path.{refl}
 use Prim.Native.Nat.{_-_}
 use lib.ListN.{getD}
 use mir.Syntax.{w8}
@@ -37,10 +36,10 @@ loop-less : tie.Need-loop-less Inv-loop μ-loop
 loop-less c = search needs
 
 loop-again : tie.Need-loop-again Inv-loop μ-loop
-loop-again c = fill-more _ _ _ _ _ _ (c .before .before .loop .inv) (search needs) refl
+loop-again c = search fill-more
 
 returns : tie.Need-returns Inv-loop μ-loop
-returns c = fill-all _ _ _ _ _ (c .before .loop .inv) (search needs)
+returns c = search fill-all
 
 pub look-up-spec : {M : Type 1} → statement M
 look-up-spec =

@@ -1,7 +1,7 @@
 -- `round_back_by` meets its contract, step by step. Assumes nothing.
 use borrow.Author.Needs.{needs}
-use Rattle.aes_round.proofs.Laws.Rounds.{round-steps-back}
 use Rattle.aes_round.proofs.Laws.Bytes.{bytes-fit}
+use Rattle.aes_round.proofs.Laws.Rounds.{round-steps-back}
 use Rattle.aes_round.proofs.rounds.round_back_by.Statement.{statement}
 use Rattle.aes_round.proofs.rounds.round_back_by.Tie as tie
 

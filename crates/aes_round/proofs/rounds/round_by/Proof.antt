@@ -1,7 +1,7 @@
 -- `round_by` meets its contract, step by step. Assumes nothing.
 use borrow.Author.Needs.{needs}
-use Rattle.aes_round.proofs.Laws.Rounds.{round-steps}
 use Rattle.aes_round.proofs.Laws.Bytes.{bytes-fit}
+use Rattle.aes_round.proofs.Laws.Rounds.{round-steps}
 use Rattle.aes_round.proofs.rounds.round_by.Statement.{statement}
 use Rattle.aes_round.proofs.rounds.round_by.Tie as tie
 

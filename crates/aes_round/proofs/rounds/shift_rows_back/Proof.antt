@@ -1,5 +1,5 @@
 -- `shift_rows_back` meets its contract: the loop fills the word from the front. Assumes nothing.
-use mathlib.Core.Path.{_∙_, refl}
+use mathlib.Core.Path.{_∙_}
 use Prim.Native.Nat.{_%_, _*_, _-_}
 use lib.ListN.{getD}
 use borrow.Author.Needs.{needs}
@@ -33,7 +33,7 @@ loop-less : tie.Need-loop-less Inv-loop μ-loop
 loop-less c = search needs
 
 loop-again : tie.Need-loop-again Inv-loop μ-loop
-loop-again c = fill-more _ _ _ _ _ _ (c .before .loop .inv) (search needs) refl
+loop-again c = search fill-more
 
 returns : tie.Need-returns Inv-loop μ-loop
 returns c = fill-all _ _ _ _ _ (c .before .loop .inv) (search needs) ∙ shift-back-word _

@@ -1,8 +1,8 @@
 -- `compress` meets its contract: a refusal leaves the chaining variable, and else the work is `compress_in`'s. Assumes nothing.
 use borrow.Author.Needs.{needs}
 use Rattle.echo.specs.Routines.{compressLeaves}
-use Rattle.echo.proofs.Laws.Refusals.{compress-counters, compress-done, compress-parts, compress-salt}
-use Rattle.echo.proofs.Laws.Refusals.{compress-some, compress-square, refused, none-refused}
+use Rattle.echo.proofs.Laws.Refusals.{compress-counters, compress-done, compress-parts, compress-salt, compress-some, compress-square}
+use Rattle.echo.proofs.Laws.Refusals.{none-refused, refused}
 use Rattle.echo.proofs.compression.compress.Statement.{statement}
 use Rattle.echo.proofs.compression.compress.Tie as tie
 

@@ -1,12 +1,12 @@
 -- `xor_in` meets its contract: the loop rewrites the list from the front. Assumes nothing.
 use mathlib.Core.Path.{_≡_, refl}
 use Prim.Native.Nat.{_-_}
+use native.Mathlib.Omega.{arith}
 use lib.ListN.{getD, length}
 use borrow.Author.Needs.{needs}
 use Rattle.aes_round.proofs.Laws.Bytes.{}
 use Rattle.aes_round.proofs.Laws.Fill.{Filled, fill-more, fill-none}
 use Rattle.aes_round.specs.Bytes.{xor}
-use native.Mathlib.Omega.{arith}
 use Rattle.echo.proofs.Laws.Compression.{xor-all, xor-old}
 use Rattle.echo.proofs.compression.xor_in.Statement.{statement}
 use Rattle.echo.proofs.compression.xor_in.Tie as tie

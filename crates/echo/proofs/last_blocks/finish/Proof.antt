@@ -1,9 +1,9 @@
 -- `finish` meets its contract: one block or two are left, by whether the padding fits behind the waiting bytes. Assumes nothing.
+use native.Mathlib.Omega.{arith}
 use borrow.Author.Needs.{needs, set-long}
+use lib.ListN.{length-set}
 use Rattle.echo.proofs.Laws.Ends.{counter-fits, one-left, two-left}
 use Rattle.echo.proofs.Laws.Waiting.{padding-fits, place-in, some-block}
-use native.Mathlib.Omega.{arith}
-use lib.ListN.{length-set}
 use Rattle.echo.proofs.last_blocks.finish.Statement.{statement}
 use Rattle.echo.proofs.last_blocks.finish.Tie as tie
 
@@ -47,6 +47,7 @@ compress-waiting-requires c κs = search (needs, counter-fits)
 clear-requires : tie.Need-clear-requires
 clear-requires c κs = search needs
 
+-- `counter-fits` would serve a counter that carries the bit count on: such code fails at `returns-2`, by what it computes
 close-requires-2 : tie.Need-close-requires-2
 close-requires-2 c κs =
     let kept = simp length-set at (c .before .before .before .before .clear .kept .0) in

@@ -1,5 +1,4 @@
 -- `sixteen` meets its contract: the loop fills the word from the front. Assumes nothing.
-use mathlib.Core.Path.{refl}
 use Prim.Native.Nat.{_+_, _-_}
 use lib.ListN.{getD}
 use borrow.Author.Needs.{needs}
@@ -32,10 +31,10 @@ loop-less : tie.Need-loop-less Inv-loop μ-loop
 loop-less c = search needs
 
 loop-again : tie.Need-loop-again Inv-loop μ-loop
-loop-again c = fill-more _ _ _ _ _ _ (c .before .before .loop .inv) (search needs) refl
+loop-again c = search fill-more
 
 returns : tie.Need-returns Inv-loop μ-loop
-returns c = fill-all _ _ _ _ _ (c .before .loop .inv) (search needs)
+returns c = search fill-all
 
 pub sixteen-spec : {M : Type 1} → statement M
 sixteen-spec =

@@ -2,7 +2,7 @@
 use borrow.Author.Needs.{needs}
 use Rattle.echo.specs.Routines.{roundsLeave}
 use Rattle.echo.specs.Square.{rounds}
-use Rattle.echo.proofs.Laws.Refusals.{refused, rounds-counters, rounds-done, rounds-salt, rounds-square, none-refused}
+use Rattle.echo.proofs.Laws.Refusals.{none-refused, refused, rounds-counters, rounds-done, rounds-salt, rounds-square}
 use Rattle.echo.proofs.run.rounds.Statement.{statement}
 use Rattle.echo.proofs.run.rounds.Tie as tie
 

@@ -2,7 +2,7 @@
 use borrow.Author.Needs.{needs}
 use Rattle.echo.specs.Routines.{roundsBackLeave}
 use Rattle.echo.specs.Square.{roundsBack}
-use Rattle.echo.proofs.Laws.Refusals.{refused, rounds-counters, rounds-done, rounds-salt, rounds-square, none-refused}
+use Rattle.echo.proofs.Laws.Refusals.{none-refused, refused, rounds-counters, rounds-done, rounds-salt, rounds-square}
 use Rattle.echo.proofs.run.rounds_back.Statement.{statement}
 use Rattle.echo.proofs.run.rounds_back.Tie as tie
 

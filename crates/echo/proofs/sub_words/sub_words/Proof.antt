@@ -3,8 +3,8 @@ use mathlib.Core.Path.{_≡_}
 use Prim.Native.Nat.{_-_, _≤_}
 use lib.ListN.{length}
 use borrow.Author.Needs.{needs}
-use Rattle.echo.specs.Square.{bigSubWords, keysFrom, word}
-use Rattle.echo.proofs.Laws.Words.{Through, all-through, forth, next-through, none-through}
+use Rattle.echo.specs.Square.{keysFrom, word}
+use Rattle.echo.proofs.Laws.Words.{Through, forth, next-through, none-through, through-forth}
 use Rattle.echo.proofs.sub_words.sub_words.Statement.{statement}
 use Rattle.echo.proofs.sub_words.sub_words.Tie as tie
 
@@ -54,8 +54,7 @@ same-length : tie.Need-same-length Inv-loop μ-loop
 same-length c = search needs
 
 returns : tie.Need-returns Inv-loop μ-loop
-unfolding bigSubWords
-returns c = all-through _ _ _ _ _ _ (c .before .loop .inv .2) (search needs)
+returns c = search through-forth
 
 pub sub-words-spec : {M : Type 1} → statement M
 sub-words-spec =

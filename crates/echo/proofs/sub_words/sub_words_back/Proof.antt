@@ -3,8 +3,8 @@ use mathlib.Core.Path.{_≡_}
 use Prim.Native.Nat.{_-_, _≤_}
 use lib.ListN.{length}
 use borrow.Author.Needs.{needs}
-use Rattle.echo.specs.Square.{bigSubWordsBack, keysFrom, word}
-use Rattle.echo.proofs.Laws.Words.{Through, all-through, back, next-through, none-through}
+use Rattle.echo.specs.Square.{keysFrom, word}
+use Rattle.echo.proofs.Laws.Words.{Through, back, next-through, none-through, through-back}
 use Rattle.echo.proofs.sub_words.sub_words_back.Statement.{statement}
 use Rattle.echo.proofs.sub_words.sub_words_back.Tie as tie
 
@@ -54,8 +54,7 @@ same-length : tie.Need-same-length Inv-loop μ-loop
 same-length c = search needs
 
 returns : tie.Need-returns Inv-loop μ-loop
-unfolding bigSubWordsBack
-returns c = all-through _ _ _ _ _ _ (c .before .loop .inv .2) (search needs)
+returns c = search through-back
 
 pub sub-words-back-spec : {M : Type 1} → statement M
 sub-words-back-spec =

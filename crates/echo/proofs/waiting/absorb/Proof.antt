@@ -1,10 +1,10 @@
 -- `absorb` meets its contract, a byte a turn. Assumes nothing.
 use mathlib.Core.Path.{_≡_}
 use Prim.Native.Nat.{_-_}
+use native.Mathlib.Omega.{arith}
 use lib.ListN.{length}
 use borrow.Author.Needs.{needs}
 use Rattle.echo.proofs.Laws.Waiting.{Absorbed, absorb-all, absorb-more, absorb-none, some-block}
-use native.Mathlib.Omega.{arith}
 use Rattle.echo.proofs.waiting.absorb.Statement.{statement}
 use Rattle.echo.proofs.waiting.absorb.Tie as tie
 

@@ -1,11 +1,11 @@
 -- `clear` meets its contract: the loop fills the list from the front. Assumes nothing.
 use mathlib.Core.Path.{_∙_, _≡_, refl}
 use Prim.Native.Nat.{_-_}
+use native.Mathlib.Omega.{arith}
 use lib.ListN.{length}
 use borrow.Author.Needs.{needs}
 use Rattle.aes_round.proofs.Laws.Fill.{Filled, fill-all, fill-more, fill-none}
 use Rattle.echo.proofs.Laws.Waiting.{zeros-are}
-use native.Mathlib.Omega.{arith}
 use Rattle.echo.proofs.waiting.clear.Statement.{statement}
 use Rattle.echo.proofs.waiting.clear.Tie as tie
 
@@ -28,7 +28,7 @@ loop-less : tie.Need-loop-less Inv-loop μ-loop
 loop-less c = search needs
 
 loop-again : tie.Need-loop-again Inv-loop μ-loop
-loop-again c = (refl, fill-more _ _ _ _ _ _ (c .before .loop .inv .1) (search needs) refl)
+loop-again c = (search needs, search fill-more)
 
 same-length : tie.Need-same-length Inv-loop μ-loop
 same-length c = omega arith

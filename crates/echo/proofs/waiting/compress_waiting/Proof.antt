@@ -1,6 +1,6 @@
 -- `compress_waiting` meets its contract: the parts that are lent have the family's sizes. Assumes nothing.
 use borrow.Author.Needs.{needs}
-use Rattle.echo.proofs.Laws.Waiting.{lent-block, lent-chaining, lent-compressed, lent-parts, lent-some, lent-square, lent-within, rounds-fit}
+use Rattle.echo.proofs.Laws.Waiting.{lent-block, lent-chaining, lent-compressed, lent-counters, lent-parts, lent-some, lent-square, lent-within}
 use Rattle.echo.proofs.waiting.compress_waiting.Statement.{statement}
 use Rattle.echo.proofs.waiting.compress_waiting.Tie as tie
 
@@ -23,7 +23,7 @@ round-count-requires : tie.Need-round-count-requires
 round-count-requires c κs = search needs
 
 compress-in-requires : tie.Need-compress-in-requires
-compress-in-requires c κs = (search lent-some, (search lent-square, (search lent-parts, search rounds-fit)))
+compress-in-requires c κs = (search lent-some, (search lent-square, (search lent-parts, search lent-counters)))
 
 same-length : tie.Need-same-length
 same-length c = search needs

@@ -1,22 +1,29 @@
 -- `body_length` meets its contract, a case for each return. Assumes nothing.
-use Rattle.steering.proofs.Laws.Records.{long-1, long-2, long-3, long-4, long-5, unknown}
+use mathlib.Core.Path.{ap, sym}
+use Rattle.steering.specs.Records.{bodyLength}
+use Rattle.steering.proofs.Laws.Records.{unknown}
 use Rattle.steering.proofs.records.body_length.Statement.{statement}
 use Rattle.steering.proofs.records.body_length.Tie as tie
 
 returns : tie.Need-returns
-returns c = search long-1
+unfolding bodyLength
+returns c = ap bodyLength (sym (c .if1 .taken))
 
 returns-2 : tie.Need-returns-2
-returns-2 c = search long-2
+unfolding bodyLength
+returns-2 c = ap bodyLength (sym (c .if2 .taken))
 
 returns-3 : tie.Need-returns-3
-returns-3 c = search long-3
+unfolding bodyLength
+returns-3 c = ap bodyLength (sym (c .if3 .taken))
 
 returns-4 : tie.Need-returns-4
-returns-4 c = search long-4
+unfolding bodyLength
+returns-4 c = ap bodyLength (sym (c .if4 .taken))
 
 returns-5 : tie.Need-returns-5
-returns-5 c = search long-5
+unfolding bodyLength
+returns-5 c = ap bodyLength (sym (c .if5 .taken))
 
 returns-6 : tie.Need-returns-6
 returns-6 c = search unknown

@@ -1,30 +1,36 @@
 -- `record_of` meets its contract, a case for each return. Assumes nothing.
+use mathlib.Core.Path.{ap}
 use native.Mathlib.Omega.{arith}
-use Rattle.steering.proofs.Laws.Records.{last-kind, long-1, long-2, long-3, long-4, high-is, hold-is, low-is, node-is, note-is, note-reaches}
 use lib.Dec.{lit≤}
+use Rattle.steering.specs.Records.{bodyLength}
+use Rattle.steering.proofs.Laws.Records.{high-is, hold-is, last-kind, low-is, node-is, note-is, note-reaches}
 use Rattle.steering.proofs.records.record_of.Statement.{statement}
 use Rattle.steering.proofs.records.record_of.Tie as tie
 
 six-requires : tie.Need-six-requires
-six-requires c κs = omega (arith, long-1 _ (c .if1 .taken))
+unfolding bodyLength
+six-requires c κs = omega (arith, ap bodyLength (c .if1 .taken))
 
 returns : tie.Need-returns
 returns c = search node-is
 
 two-requires : tie.Need-two-requires
-two-requires c κs = omega (arith, long-2 _ (c .if2 .taken))
+unfolding bodyLength
+two-requires c κs = omega (arith, ap bodyLength (c .if2 .taken))
 
 returns-2 : tie.Need-returns-2
 returns-2 c = search low-is
 
 two-requires-2 : tie.Need-two-requires-2
-two-requires-2 c κs = omega (arith, long-3 _ (c .if3 .taken))
+unfolding bodyLength
+two-requires-2 c κs = omega (arith, ap bodyLength (c .if3 .taken))
 
 returns-3 : tie.Need-returns-3
 returns-3 c = search high-is
 
 four-requires : tie.Need-four-requires
-four-requires c κs = omega (arith, long-4 _ (c .if4 .taken))
+unfolding bodyLength
+four-requires c κs = omega (arith, ap bodyLength (c .if4 .taken))
 
 returns-4 : tie.Need-returns-4
 returns-4 c = search hold-is

@@ -1,7 +1,7 @@
 -- `read` meets its contract, a case for each return. Assumes nothing.
 use borrow.Author.Needs.{length-unmapped, needs}
-use Rattle.echo.proofs.Laws.Sessions.{read-0, read-3, read-5, bits-most, digest-fits, digest-long}
-use Rattle.echo.proofs.Laws.Sessions.{digest-within, left-3, left-5, left-digest, rest-zero, taken-most}
+use Rattle.echo.proofs.Laws.Sessions.{bits-most, digest-fits, digest-long, digest-within, left-3, left-5, left-digest, read-0, read-3, read-5}
+use Rattle.echo.proofs.Laws.Sessions.{rest-zero, taken-most}
 use Rattle.echo.proofs.session.Session.read.Statement.{statement}
 use Rattle.echo.proofs.session.Session.read.Tie as tie
 

@@ -45,11 +45,6 @@ module _ (c : ℕ) (v₀ src : List ℕ) where
   pub parts-in : ℕ → List ℕ
   parts-in j = xorBytes c v₀ (tab c (λ k. xorSum j (λ i. getD src (c * i + k) 0)))
 
-  pub no-parts : length v₀ ≡ c → v₀ ≡ parts-in 0
-  unfolding parts-in
-  no-parts l =
-      same-list c v₀ _ l (length-xor c v₀ _) (λ k h. sym (getD-xor c v₀ _ k h ∙ ap (xor (getD v₀ k 0)) (getD-tab c _ k h) ∙ xor-zero-r _))
-
   parts-long : (j : ℕ) → length (parts-in j) ≡ c
   unfolding parts-in
   parts-long j = length-xor c v₀ _
@@ -57,6 +52,9 @@ module _ (c : ℕ) (v₀ src : List ℕ) where
   summed : (n k : ℕ) → k < c → getD (parts-in n) k 0 ≡ xor (getD v₀ k 0) (xorSum n (λ i. getD src (c * i + k) 0))
   unfolding parts-in
   summed n k h = getD-xor c v₀ _ k h ∙ ap (xor (getD v₀ k 0)) (getD-tab c _ k h)
+
+  pub no-parts : length v₀ ≡ c → v₀ ≡ parts-in 0
+  no-parts l = same-list c v₀ _ l (parts-long 0) (λ k h. sym (summed 0 k h ∙ xor-zero-r _))
 
   module _ (j : ℕ) (v : List ℕ) (e : v ≡ parts-in j) where
     -- the part j is what stands in src from c * j to its end

@@ -49,8 +49,7 @@ clear-requires c κs = search needs
 
 close-requires-2 : tie.Need-close-requires-2
 close-requires-2 c κs =
-    let kept = simp length-set at (c .before .before .before .before .clear .kept .0) in
-    (search needs, (omega arith, (search needs, (search, search))))
+    (search needs, (omega (arith, simp length-set at (c .before .before .before .before .clear .kept .0)), (search needs, (search, search))))
 
 same-length-3 : tie.Need-same-length-3
 same-length-3 c = search needs

@@ -1,4 +1,4 @@
--- Folds and BIG.Final. Assumes nothing.
+-- Xored bytes, folds and BIG.Final, as the code's loops make them. Assumes nothing.
 use mathlib.Core.Path.{_≡_, refl, sym, ap, ap₂, _∙_}
 use mathlib.Core.Logic.{⊎-elim}
 use mathlib.Core.List.{List, _++_}

@@ -1,4 +1,4 @@
--- Loops over the words and the columns of a square. Assumes nothing.
+-- Loops over the words of a square. Assumes nothing.
 use mathlib.Core.Path.{_≡_, sym, ap, ap₂, _∙_, subst}
 use mathlib.Core.List.{List}
 use Prim.Native.Nat.{ℕ, _+_, _*_, _/_, _%_, _<_, _≤_}

@@ -1,4 +1,4 @@
--- Each case of reading at a place, from the tests that lead to it. Assumes nothing.
+-- Each case of reading at a place, from the tests that lead to it, and what a reading says of the table. Assumes nothing.
 use mathlib.Core.Path.{_≡_, refl, sym, subst, _∙_}
 use mathlib.Core.Bool.{Bool, true, false}
 use mathlib.Core.Logic.{_⊎_, inl, inr, ⊎-elim}

@@ -1,4 +1,4 @@
--- The body lengths of the kinds, and that a record has the kind and the body that it was read from. Assumes nothing.
+-- The record of each kind, and that a record has the kind and the body that it was read from. Assumes nothing.
 use mathlib.Core.Path.{_≡_, refl, sym, ap, _∙_}
 use mathlib.Core.Bool.{Bool, true, false}
 use mathlib.Core.List.{List, _++_}

@@ -49,9 +49,10 @@ clear-requires c κs = search needs
 
 -- `counter-fits` would serve a counter that carries the bit count on: such code fails at `returns-2`, by what it computes
 close-requires-2 : tie.Need-close-requires-2
-close-requires-2 c κs =
-    let kept = simp length-set at (c .before .before .before .before .clear .kept .0) in
-    (search needs, (omega arith, (search (needs, counter-fits), (search, search))))
+close-requires-2 c κs = (
+  search needs,
+  (omega (arith, simp length-set at (c .before .before .before .before .clear .kept .0)), (search (needs, counter-fits), (search, search))),
+)
 
 same-length-3 : tie.Need-same-length-3
 same-length-3 c = search needs

@@ -1,0 +1,5 @@
+pub mod Decimal
+pub mod Hexadecimal
+pub mod Lines
+pub mod Names
+pub mod Reasons

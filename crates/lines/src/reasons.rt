@@ -1,0 +1,38 @@
+// Why a call of the system failed, in the words of the C library.
+ghost use Rattle.lines.specs.Lines.{Put};
+ghost use Rattle.lines.specs.Reasons.{reasonOf};
+use super::bytes::put;
+use super::decimal::put_decimal;
+
+// The reason behind an error number of Linux: the text of those that opening, reading and writing files meet most, and `error N` for any
+// other.
+pub fn put_reason(room: &mut [u8], at: usize, error: u64) -> usize
+    ensures { λ r. ⌜ Put (now (room .entry)) at (reasonOf error) (now (room .exit)) r ⌝ }
+{
+    if error == 2 {
+        return put(room, at, b"No such file or directory");
+    }
+    if error == 5 {
+        return put(room, at, b"Input/output error");
+    }
+    if error == 9 {
+        return put(room, at, b"Bad file descriptor");
+    }
+    if error == 13 {
+        return put(room, at, b"Permission denied");
+    }
+    if error == 20 {
+        return put(room, at, b"Not a directory");
+    }
+    if error == 21 {
+        return put(room, at, b"Is a directory");
+    }
+    if error == 28 {
+        return put(room, at, b"No space left on device");
+    }
+    if error == 36 {
+        return put(room, at, b"File name too long");
+    }
+    let end = put(room, at, b"error ");
+    put_decimal(room, end, error)
+}

@@ -6,12 +6,18 @@ use Prim.Native.String.{[] as []ˢ, _∷_ as _∷ˢ_}
 use mathlib.Core.Bool.{cond}
 use mathlib.Core.List.{List, [], _∷_, _++_}
 use lib.Dec.{eqb}
+use lib.IntN.{ℤ, negsuc, pos}
 use Rattle.lines.specs.Decimal.{decimalOf}
 
 -- a text as bytes
 unfoldable pub bytesOf : String → List ℕ
 bytesOf []ˢ = []
 bytesOf (c ∷ˢ s) = code c ∷ bytesOf s
+
+-- an error number as C has it; none is below 0
+unfoldable pub numberOf : ℤ → ℕ
+numberOf (pos n) = n
+numberOf (negsuc n) = 0
 
 unfoldable pub reasonOf : ℕ → List ℕ
 reasonOf e =

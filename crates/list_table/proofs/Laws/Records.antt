@@ -10,7 +10,8 @@ use Rattle.steering.specs.declared.reading.Reading.the-variants.{Found}
 use Rattle.steering.specs.declared.records.Record.{Record}
 use Rattle.steering.proofs.Laws.Reading.{found}
 
-module _ (table : List ℕ) (place : ℕ) (x : Reading) (record-read : Record) (next : ℕ) (is : x ≡ Found record-read next) (read : x ≡ readAt table place) where
+module _ (table : List ℕ) (place : ℕ) (x : Reading) (record-read : Record) (next : ℕ)
+    (is : x ≡ Found record-read next) (read : x ≡ readAt table place) where
   pub goes-on : place < next
   goes-on = let here = found table place record-read next (sym is ∙ read) in omega (arith, here .next-is)
 

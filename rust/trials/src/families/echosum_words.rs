@@ -14,7 +14,10 @@ pub const FAMILY: Family = Family {
 
 pub const NAME: &str = "echosum";
 
-const USAGE: &str = "usage: echosum [-b BITS] [-s SALT] [FILE...] (the exit status is always 0: all went well if standard error is empty)\n";
+const USAGE: &str = "usage: echosum [-b BITS] [-s SALT] [FILE...]";
+
+/// What `--help` prints behind the usage.
+const HELP: &str = "Prints the ECHO digest of each FILE, or of standard input. BITS is 128 to 512 by eights, and 256 where not given; SALT is 32 hex digits, and zeros where not given.";
 
 const ZEROS: [u8; 16] = [0; 16];
 const SALT: [u8; 16] = *b"\x00\x0a\xa0\xff456789abcdef";
@@ -63,11 +66,21 @@ fn jobs(folder: &Path) -> Vec<Job> {
             .map(|name| line(bits, &salt, &content(name), name));
         job(words, lines.collect(), "")
     };
-    let usage = |words: &[&str]| job(words, String::new(), USAGE);
+    let bad_word = |words: &[&str], bad: &str| {
+        let said = format!("echosum: bad word {bad} ({USAGE})\n");
+        job(words, String::new(), &said)
+    };
+    let no_value = |words: &[&str], flag: &str| {
+        let said = format!("echosum: no value behind {flag} ({USAGE})\n");
+        job(words, String::new(), &said)
+    };
+    let help = |words: &[&str]| job(words, format!("{USAGE}\n{HELP}\n"), "");
     let bad_bits = |bits: &str| {
         let said = format!("echosum: bad bits {bits}\n");
         job(&["-b", bits, "short"], String::new(), &said)
     };
+    let long_salt = format!("{SALT_WORD}0");
+    let odd_salt = SALT_WORD.replace('F', "g");
     let missing = "echosum: missing: No such file or directory\n";
     vec![
         good(&[], 256, ZEROS, &["-"]),
@@ -107,18 +120,20 @@ fn jobs(folder: &Path) -> Vec<Job> {
         bad_bits("120"),
         bad_bits("520"),
         bad_bits("1000000"),
-        usage(&["-b"]),
-        usage(&["-s"]),
-        usage(&["-b", "abc", "short"]),
-        usage(&["-b", "", "short"]),
-        usage(&["-b", "-256", "short"]),
-        usage(&["-b256", "short"]),
-        usage(&["-s", "00", "short"]),
-        usage(&["-s", &format!("{SALT_WORD}0"), "short"]),
-        usage(&["-s", &SALT_WORD.replace('F', "g"), "short"]),
-        usage(&["-x", "short"]),
-        usage(&["short", "--help"]),
-        usage(&["short", "-b"]),
+        no_value(&["-b"], "-b"),
+        no_value(&["-s"], "-s"),
+        no_value(&["short", "-b"], "-b"),
+        bad_word(&["-b", "abc", "short"], "abc"),
+        bad_word(&["-b", "", "short"], ""),
+        bad_word(&["-b", "-256", "short"], "-256"),
+        bad_word(&["-b256", "short"], "-b256"),
+        bad_word(&["-s", "00", "short"], "00"),
+        bad_word(&["-s", &long_salt, "short"], &long_salt),
+        bad_word(&["-s", &odd_salt, "short"], &odd_salt),
+        bad_word(&["-x", "short"], "-x"),
+        bad_word(&["short", "-y", "-x"], "-y"),
+        help(&["--help"]),
+        help(&["short", "--help", "-x"]),
     ]
 }
 

@@ -9,6 +9,12 @@ use std::process::{Child, Command, Output, Stdio};
 use std::thread;
 use std::time::Duration;
 
+/// The script that runs a program.
+pub const RUN: &str = concat!(env!("CARGO_MANIFEST_DIR"), "/../../tools/run");
+
+/// The folder of the programs themselves.
+pub const PROGRAMS: &str = concat!(env!("CARGO_MANIFEST_DIR"), "/../../target/bin");
+
 /// How long a pause between two pieces is.
 const PAUSE: Duration = Duration::from_millis(2);
 
@@ -118,7 +124,7 @@ impl Job {
     }
 
     fn start(&self) -> std::io::Result<Child> {
-        let mut command = Command::new(concat!(env!("CARGO_MANIFEST_DIR"), "/../../tools/run"));
+        let mut command = Command::new(RUN);
         if let Some(folder) = &self.folder {
             command.current_dir(folder);
         }

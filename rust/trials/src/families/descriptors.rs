@@ -133,24 +133,30 @@ fn run(run: &mut Run) -> Result<(), String> {
         .with("table", RECORD)?
         .with("salted", SALTED)?;
     for case in CASES {
-        check(&case, &folder, &format!("{RUN} "), 1)?;
+        check(&case, &folder, [RUN, " "], 1)?;
         run.count(1);
     }
     for case in DIRECT.iter().filter(|_| cfg!(target_arch = "x86_64")) {
-        check(case, &folder, &format!("{PROGRAMS}/"), 0)?;
+        check(case, &folder, [PROGRAMS, "/"], 0)?;
         run.count(1);
     }
     Ok(())
 }
 
-/// Each prints nothing, says why, and ends with this status.
-fn check(case: &Broken, folder: &Folder, before: &str, status: i32) -> Result<(), String> {
+/// Each prints nothing, says why, and ends with this status. In front of the
+/// program's name stand a path and what is between the two.
+fn check(
+    case: &Broken,
+    folder: &Folder,
+    [path, between]: [&str; 2],
+    status: i32,
+) -> Result<(), String> {
     let input = match case.before {
         Some(bytes) => Stdio::from(broken_off(bytes).map_err(|error| error.to_string())?),
         None => Stdio::null(),
     };
     let ran = Command::new("sh")
-        .args(["-c", &format!("{before}{}", case.command)])
+        .args(["-c", &format!("\"$0\"{between}{}", case.command), path])
         .current_dir(&folder.0)
         .stdin(input)
         .output()

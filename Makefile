@@ -11,7 +11,7 @@
 all:
 	@mkdir -p target
 	@echo "proving and building every crate takes some four minutes; what is said goes to target/check.log"
-	@rt check >target/check.log 2>&1 || { grep -E 'error: |NOT PROVED|FAILED' target/check.log | head -n 20; tail -n 5 target/check.log; exit 1; }
+	@rt check >target/check.log 2>&1 || { grep -E 'error: |NOT PROVED|FAILED' target/check.log | head -n 20 | cut -c 1-200; tail -n 5 target/check.log | cut -c 1-200; exit 1; }
 	@tail -n 1 target/check.log
 	@tools/library
 	@tools/run list_table <crates/list_table/stdin

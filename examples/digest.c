@@ -6,12 +6,12 @@
 
 int main(void)
 {
-    const uint8_t salt[16] = {0};
+    const uint8_t salt[BAHMORIST_SALT_BYTES] = {0};
     const uint8_t message[3] = {'a', 'b', 'c'};
     uint8_t digest[32];
     uint8_t refusal = bahmorist_digest(256, salt, sizeof salt, message, sizeof message, digest, sizeof digest);
 
-    if (refusal != 0) {
+    if (refusal != BAHMORIST_DONE) {
         fprintf(stderr, "refused by %u\n", (unsigned)refusal);
         return 1;
     }

@@ -2,23 +2,15 @@
  *
  * Link target/staticlib/libbahmorist.a, which `rt staticlib bahmorist` makes for x86-64 Linux; `tools/library` makes
  * target/native/libbahmorist.a for the machine at hand. The library keeps nothing between calls, allocates nothing and may be called from
- * several threads at once. As it is compiled today no call takes more than 6,000 bytes of stack.
+ * several threads at once. As it is compiled today no call takes more than 6,000 bytes of stack, what the C library's memcpy and memset take
+ * not counted. The code for x86-64 uses the SSE2 registers, which a kernel has to save around a call.
  *
- * Each function answers 0, or the number that it refuses by:
+ * How long a call takes depends on the data: the substitution is a table. Nothing is erased: what was worked on stays on the stack until
+ * something else is written there.
  *
- *    1  the digest length is not a multiple of 8 from 128 to 512
- *    2  the salt is not 16 bytes
- *    4  the message is over 2^61 - 21 bytes
- *    5  the output room is under bits / 8 bytes, or under 32 for a fingerprint
- *    6  chaining and block sizes are neither 64 and 192 nor 128 and 128; the square is not 256 bytes; the round count is not 8 or 10
- *    7  the starting counter is above 2^64 - 161
- *    8  the table is over 4,096 bytes
- *    9  unknown kind byte in the table
- *   10  record of the table cut short
- *   11  the digest layer refused what the table layer had passed; no input leads there
- *
- * Where several apply the lowest is given, but between 9 and 10 that of the record nearer the table's front. A function that refuses writes
- * to no buffer; bahmorist_fingerprint writes *place even then.
+ * Each function answers 0, or the number that it refuses by (enum bahmorist_refusal). Where several apply the lowest is given, but between 9
+ * and 10 that of the record nearer the table's front. A function that refuses writes to no buffer; bahmorist_fingerprint writes *place even
+ * then. What stands in a buffer after a refusal is no digest, so a compiler that can warns where an answer is not looked at.
  *
  * What a caller must give: a pointer and a length name that many bytes, which nothing else writes during the call. Memory that a function
  * writes (a pointer without const) overlaps none of its other arguments. Where a length is 0 nothing is read or written there, and any
@@ -29,30 +21,82 @@
 #include <stddef.h>
 #include <stdint.h>
 
+#define BAHMORIST_VERSION "0.1.0"
+#define BAHMORIST_VERSION_NUMBER 100 /* 10,000 times the first part, 100 times the second and the third, added up */
+
+#define BAHMORIST_SALT_BYTES 16
+#define BAHMORIST_SQUARE_BYTES 256
+#define BAHMORIST_FINGERPRINT_BYTES 32
+#define BAHMORIST_MOST_DIGEST_BYTES 64
+#define BAHMORIST_MOST_TABLE_BYTES 4096
+
+/* Why a call was refused. No function here takes a session, so that 3, which is for those that do, is left out. */
+enum bahmorist_refusal {
+    BAHMORIST_DONE = 0,
+    BAHMORIST_REFUSED_DIGEST_LENGTH = 1, /* the digest length is not a multiple of 8 from 128 to 512 */
+    BAHMORIST_REFUSED_SALT = 2,          /* the salt is not 16 bytes */
+    BAHMORIST_REFUSED_MESSAGE = 4,       /* the message is over 2^61 - 21 bytes */
+    BAHMORIST_REFUSED_ROOM = 5,          /* the output room is under bits / 8 bytes, or under 32 for a fingerprint */
+    BAHMORIST_REFUSED_SHAPE = 6,         /* chaining and block sizes are neither 64 and 192 nor 128 and 128; the square is not 256 bytes; the
+                                            round count is not 8 or 10 */
+    BAHMORIST_REFUSED_COUNTER = 7,       /* the starting counter is above 2^64 - 161 */
+    BAHMORIST_REFUSED_TABLE = 8,         /* the table is over 4,096 bytes */
+    BAHMORIST_REFUSED_KIND = 9,          /* unknown kind byte in the table */
+    BAHMORIST_REFUSED_CUT_SHORT = 10,    /* record of the table cut short */
+    BAHMORIST_REFUSED_DIGEST_LAYER = 11  /* the digest layer refused what the table layer had passed; no input leads there */
+};
+
+/* A record of a steering table is one of these kind bytes and a body of so many bytes, its numbers with the most significant byte first. */
+enum bahmorist_kind {
+    BAHMORIST_KIND_NODE = 1,       /* node address */
+    BAHMORIST_KIND_FLOOR_LOW = 2,  /* join floor at 2.4 GHz */
+    BAHMORIST_KIND_FLOOR_HIGH = 3, /* join floor at 5 GHz */
+    BAHMORIST_KIND_HOLD = 4,       /* hold time */
+    BAHMORIST_KIND_NOTE = 5        /* note: four numbers of 8 bytes */
+};
+#define BAHMORIST_NODE_BYTES 6
+#define BAHMORIST_FLOOR_BYTES 2
+#define BAHMORIST_HOLD_BYTES 4
+#define BAHMORIST_NOTE_BYTES 32
+
+/* A warning where an answer is not looked at, from a compiler that can. */
+#if defined(__cplusplus) && __cplusplus >= 201703L
+#define BAHMORIST_LOOK_AT [[nodiscard]]
+#elif !defined(__cplusplus) && defined(__STDC_VERSION__) && __STDC_VERSION__ >= 202311L
+#define BAHMORIST_LOOK_AT [[nodiscard]]
+#elif defined(__GNUC__)
+#define BAHMORIST_LOOK_AT __attribute__((warn_unused_result))
+#else
+#define BAHMORIST_LOOK_AT
+#endif
+
 #ifdef __cplusplus
 extern "C" {
 #endif
 
 /* Puts the digest of the message, bits / 8 bytes, at the front of out; bytes behind it stay. Refuses by 1, 2, 4 or 5. The salt is sixteen
  * zeros where there is none. */
-uint8_t bahmorist_digest(uint64_t bits, const uint8_t *salt, size_t salt_len, const uint8_t *message, size_t message_len, uint8_t *out,
-                         size_t out_len);
+BAHMORIST_LOOK_AT uint8_t bahmorist_digest(uint64_t bits, const uint8_t *salt, size_t salt_len, const uint8_t *message, size_t message_len,
+                                           uint8_t *out, size_t out_len);
 
 /* Rewrites the square by 8 or 10 of ECHO's rounds, whose inner counter starts at counter. Refuses by 2, 6 or 7. */
-uint8_t bahmorist_rounds(uint8_t *square, size_t square_len, uint64_t rounds, uint64_t counter, const uint8_t *salt, size_t salt_len);
+BAHMORIST_LOOK_AT uint8_t bahmorist_rounds(uint8_t *square, size_t square_len, uint64_t rounds, uint64_t counter, const uint8_t *salt,
+                                           size_t salt_len);
 
 /* Undoes bahmorist_rounds with the same rounds, counter and salt. Refuses by 2, 6 or 7. */
-uint8_t bahmorist_rounds_back(uint8_t *square, size_t square_len, uint64_t rounds, uint64_t counter, const uint8_t *salt, size_t salt_len);
+BAHMORIST_LOOK_AT uint8_t bahmorist_rounds_back(uint8_t *square, size_t square_len, uint64_t rounds, uint64_t counter, const uint8_t *salt,
+                                                size_t salt_len);
 
 /* Rewrites the chaining value to the one after this block, with 8 rounds where it is 64 bytes and 10 where it is 128. Refuses by 2, 6 or
  * 7. */
-uint8_t bahmorist_compress(uint8_t *chaining, size_t chaining_len, const uint8_t *block, size_t block_len, uint64_t counter,
-                           const uint8_t *salt, size_t salt_len);
+BAHMORIST_LOOK_AT uint8_t bahmorist_compress(uint8_t *chaining, size_t chaining_len, const uint8_t *block, size_t block_len, uint64_t counter,
+                                             const uint8_t *salt, size_t salt_len);
 
-/* Puts the fingerprint of a steering table, 32 bytes, at the front of out; bytes behind it stay. Refuses by 2, 5, 8, 9 or 10. place, which
- * is not NULL, gets the place of the record's kind byte with 9 and 10, and else 0. */
-uint8_t bahmorist_fingerprint(const uint8_t *salt, size_t salt_len, const uint8_t *table, size_t table_len, uint8_t *out, size_t out_len,
-                              uint64_t *place);
+/* Puts the fingerprint of a steering table, 32 bytes, at the front of out; bytes behind it stay. It is the 256-bit digest of all bodies, without
+ * the kind bytes, joined in order. Refuses by 2, 5, 8, 9 or 10. place, which is not NULL, gets the place of the record's kind byte with 9 and
+ * 10, and else 0. */
+BAHMORIST_LOOK_AT uint8_t bahmorist_fingerprint(const uint8_t *salt, size_t salt_len, const uint8_t *table, size_t table_len, uint8_t *out,
+                                                size_t out_len, uint64_t *place);
 
 #ifdef __cplusplus
 }

@@ -1,17 +1,44 @@
-//! Links the proved library, which `tools/library` makes for this machine.
+//! Links the proved library for the target that is built for: the archive that
+//! `tools/library` makes for this machine, or, on another one, the kit's own for
+//! x86-64 Linux.
 
 use std::env;
-use std::path::Path;
+use std::path::{Path, PathBuf};
 
 fn main() {
-    let package = env::var("CARGO_MANIFEST_DIR").expect("cargo says where the package is");
-    let folder = Path::new(&package).join("../../target/native");
+    let package = variable("CARGO_MANIFEST_DIR");
+    let folder = match folder() {
+        Ok(folder) => Path::new(&package).join("../..").join(folder),
+        Err(wrong) => return println!("cargo::error={wrong}"),
+    };
     let archive = folder.join("libbahmorist.a");
     println!("cargo::rerun-if-changed={}", archive.display());
     if !archive.exists() {
-        println!("cargo::error=target/native/libbahmorist.a is missing: run tools/library first");
-        return;
+        let archive = archive.display();
+        return println!("cargo::error={archive} is missing: run tools/library first");
     }
     println!("cargo::rustc-link-search=native={}", folder.display());
     println!("cargo::rustc-link-lib=static=bahmorist");
+}
+
+/// The folder of the archive for the target, or why there is none.
+fn folder() -> Result<PathBuf, String> {
+    let (system, processor) = (
+        variable("CARGO_CFG_TARGET_OS"),
+        variable("CARGO_CFG_TARGET_ARCH"),
+    );
+    if system != "linux" {
+        return Err(format!("the library is for Linux, and not for {system}"));
+    }
+    match processor.as_str() {
+        own if own == env::consts::ARCH => Ok("target/native".into()),
+        "x86_64" => Ok("target/staticlib".into()),
+        other => Err(format!(
+            "the library for {other} is made on a machine of that kind"
+        )),
+    }
+}
+
+fn variable(name: &str) -> String {
+    env::var(name).unwrap_or_else(|_| panic!("cargo sets {name}"))
 }

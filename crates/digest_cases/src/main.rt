@@ -9,6 +9,9 @@ ghost use lib.ListN.{length};
 use echo::Session;
 use libc::STDIN_FILENO;
 use libc::STDOUT_FILENO;
+use lines::put;
+use lines::put_decimal;
+use lines::put_hex;
 
 fn wide(x: u8) -> u64
     ensures { λ r. ⌜ r < 256 ⌝ }
@@ -34,18 +37,20 @@ fn fill(message: &mut [u8], seed: u8)
 }
 
 fn print_refused(number: u8) {
-    io::write_all(STDOUT_FILENO, b"refused ");
-    io::print_decimal(STDOUT_FILENO, number as u64);
-    io::write_all(STDOUT_FILENO, b"\n");
+    let mut line = [0u8; 32];
+    let named = put(&mut line, 0, b"refused ");
+    let numbered = put_decimal(&mut line, named, number as u64);
+    let end = put(&mut line, numbered, b"\n");
+    io::write_all(STDOUT_FILENO, &line[0..end]);
 }
 
 fn print_digest(digest: &[u8], size: usize)
     requires { ⌜ size ≤ length (now digest) ⌝ }
 {
-    for i in 0..size {
-        io::print_hex(STDOUT_FILENO, wide(digest[i]), 2);
-    }
-    io::write_all(STDOUT_FILENO, b"\n");
+    let mut line = [0u8; 129];
+    let spelled = put_hex(&mut line, 0, &digest[0..size]);
+    let end = put(&mut line, spelled, b"\n");
+    io::write_all(STDOUT_FILENO, &line[0..end]);
 }
 
 // Where a piece of k bytes from `at` on ends in a message of n bytes.

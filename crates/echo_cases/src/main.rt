@@ -9,6 +9,9 @@ ghost use mathlib.Core.Path.{_≡_};
 ghost use lib.ListN.{length};
 use libc::STDIN_FILENO;
 use libc::STDOUT_FILENO;
+use lines::put;
+use lines::put_decimal;
+use lines::put_hex;
 
 fn wide(x: u8) -> u64
     ensures { λ r. ⌜ r < 256 ⌝ }
@@ -38,12 +41,12 @@ fn long(bytes: &[u8], at: usize) -> u64
 }
 
 fn print(refusal: u8, bytes: &[u8]) {
-    io::print_decimal(STDOUT_FILENO, refusal as u64);
-    io::write_all(STDOUT_FILENO, b" ");
-    for i in 0..bytes.len() {
-        io::print_hex(STDOUT_FILENO, wide(bytes[i]), 2);
-    }
-    io::write_all(STDOUT_FILENO, b"\n");
+    let mut line = [0u8; 600];
+    let numbered = put_decimal(&mut line, 0, refusal as u64);
+    let spaced = put(&mut line, numbered, b" ");
+    let spelled = put_hex(&mut line, spaced, bytes);
+    let end = put(&mut line, spelled, b"\n");
+    io::write_all(STDOUT_FILENO, &line[0..end]);
 }
 
 // Calls the routine of a kind on the first `end` bytes of `a`.

@@ -1,12 +1,7 @@
--- Hex digits and their values. Assumes nothing.
-use Prim.Native.Nat.{ℕ, _+_, _-_, _/_, _%_}
+-- The values of hex digits. Assumes nothing.
+use Prim.Native.Nat.{ℕ, _+_, _-_}
 use mathlib.Core.Bool.{cond}
-use mathlib.Core.List.{List, [], _∷_}
 use lib.Dec.{leb, ltb}
-
--- the digit of a value below 16: `0` to `9`, then `a` to `f`
-abbrev pub digitOf : ℕ → ℕ
-digitOf v = cond (ltb v 10) (48 + v) (87 + v)
 
 -- the value of a digit, `0` to `9`, `A` to `F` or `a` to `f`, and 16 for any other byte
 unfoldable pub nibbleOf : ℕ → ℕ
@@ -17,8 +12,3 @@ nibbleOf x =
     (cond (leb x 70) (x - 65 + 10)
     (cond (ltb x 97) 16
     (cond (leb x 102) (x - 97 + 10) 16)))))
-
--- two digits of each byte
-unfoldable pub spelled : List ℕ → List ℕ
-spelled [] = []
-spelled (x ∷ xs) = digitOf (x / 16) ∷ digitOf (x % 16) ∷ spelled xs

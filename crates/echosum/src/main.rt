@@ -1,24 +1,20 @@
-// Prints the ECHO digest of each file that is named, or of standard input: echosum [-b BITS] [-s SALT] [FILE...].
+// Prints the ECHO digest of each file that is named, or of standard input: echosum [-b BITS] [-s SALT] [FILE...]. Every line is one write.
 mod hexadecimal;
 mod options;
+mod saying;
 mod summing;
 mod words;
 
 ghost use Prim.Native.Nat.{_≤_};
 ghost use lib.ListN.{length};
 use echo::Session;
-use libc::STDERR_FILENO;
 use options::Options;
 use options::defaults;
+use saying::print_usage;
+use saying::say_bad_bits;
+use saying::say_bad_word;
+use saying::say_no_value;
 use summing::sum_named;
-
-// A program has no exit status of its own, so the line says where a script looks instead.
-fn usage() {
-    io::write_all(
-        STDERR_FILENO,
-        b"usage: echosum [-b BITS] [-s SALT] [FILE...] (the exit status is always 0: all went well if standard error is empty)\n",
-    );
-}
 
 // Puts the word i of the command line at the front of `room` and answers its length. Of a word that is longer than the room only the
 // front comes, and that will do: no option, number, salt or path is so long.
@@ -29,48 +25,41 @@ fn word(i: usize, room: &mut [u8]) -> usize
     if os::errno() == 0 { n } else { room.len() }
 }
 
-// What all words ask for.
+// What the words ask for, up to the first that is bad, which is said, or that asks for help.
 fn asked() -> Options {
     let mut room = io::buffer();
     let mut options = defaults();
     let count = os::arg_count();
     let mut i = 1;
-    while i < count {
+    while i < count && options.goes_on {
         let n = word(i, &mut room);
         options = options.take(&room[0..n]);
+        if options.is_bad {
+            say_bad_word(&room[0..n]);
+        }
         i += 1;
     }
     options
 }
 
-// A line for each file. The words are taken once more, which tells the files among them.
+// A line for each file, until one can't be written. The words are taken once more, which tells the files among them.
 fn sum_files(session: Session) {
     let mut room = io::buffer();
     let mut options = defaults();
+    let mut goes_on = true;
     let count = os::arg_count();
     let mut i = 1;
-    while i < count {
+    while i < count && goes_on {
         let n = word(i, &mut room);
         options = options.take(&room[0..n]);
         if options.is_file {
-            sum_named(session, &room[0..n]);
+            goes_on = sum_named(session, &room[0..n]);
         }
         i += 1;
     }
 }
 
-fn say_bad_bits(bits: u64) {
-    io::write_all(STDERR_FILENO, b"echosum: bad bits ");
-    io::print_decimal(STDERR_FILENO, bits);
-    io::write_all(STDERR_FILENO, b"\n");
-}
-
-fn main() {
-    let options = asked();
-    if !options.are_good() {
-        usage();
-        return;
-    }
+fn sum_asked(options: Options) {
     let opening = Session::open(options.bits, &options.salt);
     let refused = opening.refusal;
     if refused != 0 {
@@ -82,5 +71,21 @@ fn main() {
         sum_files(session);
     } else {
         sum_named(session, b"-");
+    }
+}
+
+fn main() {
+    let options = asked();
+    if options.is_bad {
+        return;
+    }
+    if options.asks_help {
+        print_usage();
+    } else if options.wants_bits {
+        say_no_value(b"-b");
+    } else if options.wants_salt {
+        say_no_value(b"-s");
+    } else {
+        sum_asked(options);
     }
 }

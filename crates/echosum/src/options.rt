@@ -12,11 +12,14 @@ pub(crate) struct Options {
     pub is_file: bool,
     pub has_file: bool,
     // whether the next word belongs to the flag before it
-    wants_bits: bool,
-    wants_salt: bool,
+    pub wants_bits: bool,
+    pub wants_salt: bool,
     // whether `--` was there: all words behind it are files
     is_ended: bool,
-    is_bad: bool,
+    // whether the last word was bad, or asked for help; either ends the taking
+    pub is_bad: bool,
+    pub asks_help: bool,
+    pub goes_on: bool,
 }
 
 pub(crate) fn defaults() -> Options {
@@ -29,15 +32,12 @@ pub(crate) fn defaults() -> Options {
         wants_salt: false,
         is_ended: false,
         is_bad: false,
+        asks_help: false,
+        goes_on: true,
     }
 }
 
 impl Options {
-    // Nothing was wrong, and no flag is without its value.
-    pub fn are_good(self) -> bool {
-        !self.is_bad && !self.wants_bits && !self.wants_salt
-    }
-
     // The options with one word more.
     pub fn take(mut self, word: &[u8]) -> Options {
         self.is_file = false;
@@ -59,7 +59,7 @@ impl Options {
         self.wants_bits = false;
         let given = number_in(word);
         if !given.is_good {
-            self.is_bad = true;
+            self = self.with_bad_word();
         }
         self.bits = given.value;
         self
@@ -69,7 +69,7 @@ impl Options {
         self.wants_salt = false;
         let given = salt_in(word);
         if !given.is_good {
-            self.is_bad = true;
+            self = self.with_bad_word();
         }
         let bytes = given.bytes;
         self.salt = bytes;
@@ -83,9 +83,18 @@ impl Options {
             self.wants_salt = true;
         } else if is_flag(word, b'-') {
             self.is_ended = true;
+        } else if check::same(word, b"--help") {
+            self.asks_help = true;
+            self.goes_on = false;
         } else {
-            self.is_bad = true;
+            self = self.with_bad_word();
         }
+        self
+    }
+
+    fn with_bad_word(mut self) -> Options {
+        self.is_bad = true;
+        self.goes_on = false;
         self
     }
 }

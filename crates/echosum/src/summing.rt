@@ -1,29 +1,18 @@
 // The digest of a file, and the line that is printed of it.
-ghost use Prim.Native.Nat.{_≤_};
-ghost use lib.ListN.{length};
-use super::hexadecimal::spell;
+use super::saying::say_too_long;
+use super::saying::say_why;
 use echo::Session;
-use libc::STDERR_FILENO;
 use libc::STDIN_FILENO;
 use libc::STDOUT_FILENO;
+use lines::put;
+use lines::put_hex;
+use lines::put_named;
 
 // A session that has taken what was read so far, whether there may be more, and whether it has taken the whole file.
 struct Progress {
     goes_on: bool,
     is_whole: bool,
     session: Session,
-}
-
-// Says why the last call failed.
-fn say_why(name: &[u8]) {
-    io::write_all(STDERR_FILENO, b"echosum: ");
-    os::fail(name);
-}
-
-fn say_too_long(name: &[u8]) {
-    io::write_all(STDERR_FILENO, b"echosum: ");
-    io::write_all(STDERR_FILENO, name);
-    io::write_all(STDERR_FILENO, b": over 2^61 - 21 bytes\n");
 }
 
 // Reads once and adds what came. What goes wrong is said here.
@@ -80,27 +69,26 @@ fn add_all(fd: i32, name: &[u8], session: Session) -> Progress {
     progress
 }
 
-// The digest in hex, two spaces and the name.
-fn print_line(digest: &[u8], name: &[u8])
-    requires { ⌜ length (now digest) ≤ 64 ⌝ }
-{
-    let mut text = [0u8; 128];
-    spell(digest, &mut text);
-    let n = 2 * digest.len();
-    let is_written = io::write_all(STDOUT_FILENO, &text[0..n])
-        && io::write_all(STDOUT_FILENO, b"  ")
-        && io::write_all(STDOUT_FILENO, name)
-        && io::write_all(STDOUT_FILENO, b"\n");
+// The digest in hex, two spaces and the name. Answers whether that was written, and says it where not. A room holds a name of 4,096 bytes,
+// each of them escaped, and what stands around it.
+fn print_line(digest: &[u8], name: &[u8]) -> bool {
+    let mut text = [0u8; 130];
+    let spelled = put_hex(&mut text, 0, digest);
+    let spaced = put(&mut text, spelled, b"  ");
+    let mut line = [0u8; 8448];
+    let end = put_named(&mut line, 0, &text[0..spaced], name, b"\n");
+    let is_written = io::write_all(STDOUT_FILENO, &line[0..end]);
     if !is_written {
         say_why(b"standard output");
     }
+    is_written
 }
 
-// The line of what is read from `fd`, or why there is none.
-fn sum(session: Session, fd: i32, name: &[u8]) {
+// The line of what is read from `fd`, or why there is none. Answers false where a line was not written.
+fn sum(session: Session, fd: i32, name: &[u8]) -> bool {
     let progress = add_all(fd, name, session);
     if !progress.is_whole {
-        return;
+        return true;
     }
     let whole = progress.session;
     let mut room = [0u8; 64];
@@ -108,23 +96,23 @@ fn sum(session: Session, fd: i32, name: &[u8]) {
     // No opened session is refused here. That this one was not shows that its digest fits the room.
     let refused = reading.refusal;
     if refused != 0 {
-        return;
+        return true;
     }
     let n = (whole.bits / 8) as usize;
-    print_line(&room[0..n], name);
+    print_line(&room[0..n], name)
 }
 
-// A dash is standard input.
-pub(crate) fn sum_named(session: Session, name: &[u8]) {
+// A dash is standard input. Answers as `sum` does.
+pub(crate) fn sum_named(session: Session, name: &[u8]) -> bool {
     if name.len() == 1 && name[0] == b'-' {
-        sum(session, STDIN_FILENO, name);
-        return;
+        return sum(session, STDIN_FILENO, name);
     }
     let fd = os::open_read(name);
     if fd < 0 {
         say_why(name);
-        return;
+        return true;
     }
-    sum(session, fd, name);
+    let goes_on = sum(session, fd, name);
     libc::close(fd);
+    goes_on
 }

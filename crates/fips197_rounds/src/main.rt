@@ -6,6 +6,8 @@ ghost use mathlib.Core.Path.{_≡_};
 ghost use lib.ListN.{length};
 use libc::STDIN_FILENO;
 use libc::STDOUT_FILENO;
+use lines::put;
+use lines::put_hex;
 
 // The number that a hex digit stands for.
 fn value(digit: u8) -> u8
@@ -32,10 +34,10 @@ fn line(text: &[u8], n: usize) -> [u8; 16]
 }
 
 fn print(word: [u8; 16]) {
-    for i in 0..16 {
-        io::print_hex(STDOUT_FILENO, word[i] as u64, 2);
-    }
-    io::write_all(STDOUT_FILENO, b"\n");
+    let mut line = [0u8; 33];
+    let spelled = put_hex(&mut line, 0, &word);
+    let end = put(&mut line, spelled, b"\n");
+    io::write_all(STDOUT_FILENO, &line[0..end]);
 }
 
 fn run(text: &[u8])

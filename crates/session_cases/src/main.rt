@@ -12,6 +12,9 @@ use echo::Answer;
 use echo::Session;
 use libc::STDIN_FILENO;
 use libc::STDOUT_FILENO;
+use lines::put;
+use lines::put_decimal;
+use lines::put_hex;
 
 fn wide(x: u8) -> u64
     ensures { λ r. ⌜ r < 256 ⌝ }
@@ -63,33 +66,58 @@ fn record(case: &[u8]) -> Session
     }
 }
 
-fn print_number(number: u64) {
-    io::write_all(STDOUT_FILENO, b" ");
-    io::print_decimal(STDOUT_FILENO, number);
+// Puts a space and a number.
+fn put_number(line: &mut [u8], at: usize, number: u64) -> usize
+    ensures { λ r. ⌜ r ≤ length (now (line .exit)) ⌝ }
+{
+    let spaced = put(line, at, b" ");
+    put_decimal(line, spaced, number)
 }
 
-fn print_bytes(bytes: &[u8]) {
-    io::write_all(STDOUT_FILENO, b" ");
-    for i in 0..bytes.len() {
-        io::print_hex(STDOUT_FILENO, wide(bytes[i]), 2);
-    }
+// Puts a space and bytes in hex.
+fn put_bytes(line: &mut [u8], at: usize, bytes: &[u8]) -> usize
+    ensures { λ r. ⌜ r ≤ length (now (line .exit)) ⌝ }
+{
+    let spaced = put(line, at, b" ");
+    put_hex(line, spaced, bytes)
+}
+
+// Puts the three rooms of a session, each with a space before it.
+fn put_rooms(line: &mut [u8], at: usize, session: Session) -> usize
+    ensures { λ r. ⌜ r ≤ length (now (line .exit)) ⌝ }
+{
+    let salt = session.salt;
+    let salted = put_bytes(line, at, &salt);
+    let chaining = session.chaining;
+    let chained = put_bytes(line, salted, &chaining);
+    let waiting = session.waiting;
+    put_bytes(line, chained, &waiting)
+}
+
+fn put_answer(line: &mut [u8], answer: Answer) -> usize
+    ensures { λ r. ⌜ r ≤ length (now (line .exit)) ⌝ }
+{
+    let refused = put_decimal(line, 0, answer.refusal as u64);
+    let session = answer.session;
+    let bits = put_number(line, refused, session.bits);
+    let taken = put_number(line, bits, session.taken);
+    put_rooms(line, taken, session)
 }
 
 fn print_answer(answer: Answer) {
-    io::print_decimal(STDOUT_FILENO, answer.refusal as u64);
-    let session = answer.session;
-    print_number(session.bits);
-    print_number(session.taken);
-    let salt = session.salt;
-    print_bytes(&salt);
-    let chaining = session.chaining;
-    print_bytes(&chaining);
-    let waiting = session.waiting;
-    print_bytes(&waiting);
+    let mut line = [0u8; 1024];
+    let answered = put_answer(&mut line, answer);
+    let end = put(&mut line, answered, b"\n");
+    io::write_all(STDOUT_FILENO, &line[0..end]);
 }
 
-fn print_end() {
-    io::write_all(STDOUT_FILENO, b"\n");
+// The answer, and the room that was lent.
+fn print_with_room(answer: Answer, room: &[u8]) {
+    let mut line = [0u8; 2048];
+    let answered = put_answer(&mut line, answer);
+    let roomed = put_bytes(&mut line, answered, room);
+    let end = put(&mut line, roomed, b"\n");
+    io::write_all(STDOUT_FILENO, &line[0..end]);
 }
 
 // Adds the first n bytes of the room.
@@ -97,14 +125,12 @@ fn add(session: Session, room: &[u8], n: usize)
     requires { ⌜ n ≤ length (now room) ⌝ }
 {
     print_answer(session.add(&room[0..n]));
-    print_end();
 }
 
 // Lends the room, and prints what is in it afterwards.
 fn read(session: Session, room: &mut [u8]) {
-    print_answer(session.read(room));
-    print_bytes(room);
-    print_end();
+    let answer = session.read(room);
+    print_with_room(answer, room);
 }
 
 // Lends the first n bytes of a room that is the case's.
@@ -135,7 +161,6 @@ fn at_most(limit: usize, n: usize) -> usize
 fn open(bits: u64, salt: &[u8], n: usize) {
     let end = at_most(salt.len(), n);
     print_answer(Session::open(bits, &salt[0..end]));
-    print_end();
 }
 
 fn run(case: &[u8])

@@ -7,6 +7,10 @@ ghost use mathlib.Core.Path.{_≡_};
 ghost use lib.ListN.{length};
 use libc::STDIN_FILENO;
 use libc::STDOUT_FILENO;
+use lines::put;
+use lines::put_decimal;
+use lines::put_hex;
+use steering::Note;
 use steering::Radio;
 use steering::Reading;
 use steering::Record;
@@ -26,61 +30,70 @@ fn short(bytes: &[u8], at: usize) -> usize
 }
 
 fn print_refused(number: u8, place: usize) {
-    io::write_all(STDOUT_FILENO, b"refused ");
-    io::print_decimal(STDOUT_FILENO, number as u64);
-    io::write_all(STDOUT_FILENO, b" at ");
-    io::print_decimal(STDOUT_FILENO, place as u64);
-    io::write_all(STDOUT_FILENO, b"\n");
+    let mut line = [0u8; 64];
+    let named = put(&mut line, 0, b"refused ");
+    let numbered = put_decimal(&mut line, named, number as u64);
+    let at = put(&mut line, numbered, b" at ");
+    let placed = put_decimal(&mut line, at, place as u64);
+    let end = put(&mut line, placed, b"\n");
+    io::write_all(STDOUT_FILENO, &line[0..end]);
 }
 
-fn print_floor(radio: Radio, level: u16) {
+// Puts a text and a number of so many hex digits, up to sixteen.
+fn put_field(line: &mut [u8], at: usize, text: &[u8], number: u64, digits: usize) -> usize
+    ensures { λ r. ⌜ r ≤ length (now (line .exit)) ⌝ }
+{
+    let mut spelled = [0u8; 16];
+    let n = io::hex(number, digits, &mut spelled);
+    let named = put(line, at, text);
+    put(line, named, &spelled[..n])
+}
+
+fn put_floor(line: &mut [u8], at: usize, radio: Radio, level: u16) -> usize
+    ensures { λ r. ⌜ r ≤ length (now (line .exit)) ⌝ }
+{
     match radio {
-        Radio::Low => {
-            io::write_all(STDOUT_FILENO, b" floor low ");
-        }
-        Radio::High => {
-            io::write_all(STDOUT_FILENO, b" floor high ");
-        }
+        Radio::Low => put_field(line, at, b" floor low ", level as u64, 4),
+        Radio::High => put_field(line, at, b" floor high ", level as u64, 4),
     }
-    io::print_hex(STDOUT_FILENO, level as u64, 4);
 }
 
-fn print_wide(number: u64) {
-    io::write_all(STDOUT_FILENO, b" ");
-    io::print_hex(STDOUT_FILENO, number, 16);
+fn put_note(line: &mut [u8], at: usize, note: Note) -> usize
+    ensures { λ r. ⌜ r ≤ length (now (line .exit)) ⌝ }
+{
+    let first = put_field(line, at, b" note ", note.first, 16);
+    let second = put_field(line, first, b" ", note.second, 16);
+    let third = put_field(line, second, b" ", note.third, 16);
+    put_field(line, third, b" ", note.fourth, 16)
 }
 
-fn print_record(record: Record) {
+fn put_record(line: &mut [u8], at: usize, record: Record) -> usize
+    ensures { λ r. ⌜ r ≤ length (now (line .exit)) ⌝ }
+{
     match record {
-        Record::Node(node) => {
-            io::write_all(STDOUT_FILENO, b" node ");
-            io::print_hex(STDOUT_FILENO, node.address, 12);
-        }
+        Record::Node(node) => put_field(line, at, b" node ", node.address, 12),
         Record::Floor(floor) => {
             let radio = floor.radio;
-            print_floor(radio, floor.level);
+            put_floor(line, at, radio, floor.level)
         }
-        Record::Hold(hold) => {
-            io::write_all(STDOUT_FILENO, b" hold ");
-            io::print_hex(STDOUT_FILENO, hold.time as u64, 8);
-        }
-        Record::Note(note) => {
-            io::write_all(STDOUT_FILENO, b" note");
-            print_wide(note.first);
-            print_wide(note.second);
-            print_wide(note.third);
-            print_wide(note.fourth);
-        }
+        Record::Hold(hold) => put_field(line, at, b" hold ", hold.time as u64, 8),
+        Record::Note(note) => put_note(line, at, note),
     }
+}
+
+fn print_found(record: Record, next: usize) {
+    let mut line = [0u8; 128];
+    let named = put(&mut line, 0, b"found ");
+    let placed = put_decimal(&mut line, named, next as u64);
+    let told = put_record(&mut line, placed, record);
+    let end = put(&mut line, told, b"\n");
+    io::write_all(STDOUT_FILENO, &line[0..end]);
 }
 
 fn read(table: &[u8], place: usize) {
     match steering::read_at(table, place) {
         Reading::Found { record, next } => {
-            io::write_all(STDOUT_FILENO, b"found ");
-            io::print_decimal(STDOUT_FILENO, next as u64);
-            print_record(record);
-            io::write_all(STDOUT_FILENO, b"\n");
+            print_found(record, next);
         }
         Reading::End => {
             io::write_all(STDOUT_FILENO, b"end\n");
@@ -98,20 +111,22 @@ fn count(table: &[u8]) {
         print_refused(refused, counted.place);
         return;
     }
-    io::write_all(STDOUT_FILENO, b"records ");
-    io::print_decimal(STDOUT_FILENO, counted.count as u64);
-    io::write_all(STDOUT_FILENO, b"\n");
+    let mut line = [0u8; 64];
+    let named = put(&mut line, 0, b"records ");
+    let numbered = put_decimal(&mut line, named, counted.count as u64);
+    let end = put(&mut line, numbered, b"\n");
+    io::write_all(STDOUT_FILENO, &line[0..end]);
 }
 
 fn print_room(refusal: u8, place: usize, room: &[u8]) {
-    io::print_decimal(STDOUT_FILENO, refusal as u64);
-    io::write_all(STDOUT_FILENO, b" ");
-    io::print_decimal(STDOUT_FILENO, place as u64);
-    io::write_all(STDOUT_FILENO, b" ");
-    for i in 0..room.len() {
-        io::print_hex(STDOUT_FILENO, wide(room[i]), 2);
-    }
-    io::write_all(STDOUT_FILENO, b"\n");
+    let mut line = [0u8; 128];
+    let refused = put_decimal(&mut line, 0, refusal as u64);
+    let spaced = put(&mut line, refused, b" ");
+    let placed = put_decimal(&mut line, spaced, place as u64);
+    let spaced_too = put(&mut line, placed, b" ");
+    let spelled = put_hex(&mut line, spaced_too, room);
+    let end = put(&mut line, spelled, b"\n");
+    io::write_all(STDOUT_FILENO, &line[0..end]);
 }
 
 // Lends the first so many bytes of the room.

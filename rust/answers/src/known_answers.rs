@@ -1,5 +1,8 @@
-//! The known-answer file of the package `known_answers`, in the form of the files
+//! The known-answer files of the package `known_answers`, in the forms of the files
 //! that the ECHO submission published.
+
+mod chains;
+mod long;
 
 use crate::file::File;
 use plain::{digest, hex};
@@ -15,6 +18,12 @@ const HEADER: &str = "\
 ";
 
 const COMPUTED: &str = "computed by rust/plain and rust/third";
+
+/// The mark of what stands in the two further files.
+const NOT_PUBLISHED: &str = "computed by rust/plain, not published";
+
+/// The digest lengths that the submission published answers for.
+const FOUR: [u64; 4] = [224, 256, 384, 512];
 
 /// Digests of the empty message from the submission's known-answer files.
 const PUBLISHED: [&str; 4] = [
@@ -45,10 +54,20 @@ const LENGTHS: [(u64, &[usize]); 8] = [
 ];
 
 pub fn files() -> Vec<File> {
-    vec![File {
-        path: "rust/known_answers/ECHO.txt",
-        bytes: (HEADER.to_string() + &published() + &computed()).into(),
-    }]
+    vec![
+        File {
+            path: "rust/known_answers/ECHO.txt",
+            bytes: (HEADER.to_string() + &published() + &computed()).into(),
+        },
+        File {
+            path: "rust/known_answers/ECHO_long.txt",
+            bytes: long::file().into(),
+        },
+        File {
+            path: "rust/known_answers/ECHO_chains.txt",
+            bytes: chains::file().into(),
+        },
+    ]
 }
 
 fn published() -> String {

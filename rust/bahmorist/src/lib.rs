@@ -6,9 +6,15 @@
 //! is refused writes nothing. Nothing is allocated and nothing is kept between
 //! calls.
 //!
-//! The library is linked from `target/native`, where `tools/library` puts it.
+//! The library is linked from `target/native`, where `tools/library` puts it, or,
+//! for x86-64 Linux from another machine, from `target/staticlib`. Nothing of
+//! Rust's `std` is used.
 
+#![no_std]
 #![deny(missing_docs)]
+
+#[cfg(test)]
+extern crate std;
 
 mod face;
 mod refusal;

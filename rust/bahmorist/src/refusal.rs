@@ -1,7 +1,7 @@
 //! Why a call was refused.
 
-use std::error::Error;
-use std::fmt::{self, Display, Formatter};
+use core::error::Error;
+use core::fmt::{self, Display, Formatter};
 
 /// Why a call was refused. Where several apply, the lowest number is given, but
 /// between 9 and 10 that of the record nearer the table's front.
@@ -118,12 +118,40 @@ impl Display for RefusedTable {
     }
 }
 
-impl Error for RefusedTable {}
+impl Error for RefusedTable {
+    fn source(&self) -> Option<&(dyn Error + 'static)> {
+        Some(&self.refusal)
+    }
+}
+
+/// A refusal that has no place, so that one function may call [`digest`] and
+/// [`fingerprint`] with `?`.
+///
+/// [`digest`]: crate::digest
+/// [`fingerprint`]: crate::fingerprint
+///
+/// ```
+/// use bahmorist::{digest, fingerprint, RefusedTable};
+///
+/// fn both(salt: &[u8], table: &[u8], out: &mut [u8]) -> Result<(), RefusedTable> {
+///     fingerprint(salt, table, out)?;
+///     digest(256, salt, table, out)?;
+///     Ok(())
+/// }
+///
+/// assert!(both(&[0; 16], b"", &mut [0; 32]).is_ok());
+/// ```
+impl From<Refusal> for RefusedTable {
+    fn from(refusal: Refusal) -> RefusedTable {
+        RefusedTable { refusal, place: 0 }
+    }
+}
 
 #[cfg(test)]
 mod tests {
     use super::*;
     use std::collections::HashSet;
+    use std::string::{String, ToString};
 
     #[test]
     fn numbers_go_there_and_back() {
@@ -148,6 +176,16 @@ mod tests {
             let text = RefusedTable { refusal, place: 0 }.to_string();
             let placed = matches!(refusal, Refusal::Kind | Refusal::CutShort);
             assert_eq!(text.ends_with(", at place 0"), placed);
+        }
+    }
+
+    #[test]
+    fn a_refused_table_has_the_refusal_behind_it() {
+        for refusal in ALL {
+            let refused = RefusedTable::from(refusal);
+            assert_eq!(refused, RefusedTable { refusal, place: 0 });
+            let source = refused.source().expect("a source");
+            assert_eq!(source.to_string(), refusal.to_string());
         }
     }
 }

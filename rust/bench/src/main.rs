@@ -20,13 +20,13 @@ const BOUND: f64 = 1.25;
 const BOUND_FROM: usize = 4096;
 
 fn main() -> ExitCode {
-    let mut slow = false;
+    let mut slow = Vec::new();
     println!("ns for each byte of the message, and the ratio to plain:");
     println!();
     println!("bits    bytes |    library      |     plain       | AES instruction");
     for bits in BITS {
         for size in SIZES {
-            slow |= row(bits, size);
+            slow.extend(row(bits, size));
         }
     }
     println!();
@@ -43,15 +43,19 @@ fn main() -> ExitCode {
             None => println!("stack of a digest of {bits} bits: not measured on this processor"),
         }
     }
-    if slow {
-        eprintln!("the library takes over {BOUND} times as long as plain");
-        return ExitCode::FAILURE;
+    if slow.is_empty() {
+        return ExitCode::SUCCESS;
     }
-    ExitCode::SUCCESS
+    for row in slow {
+        eprintln!("{row}");
+    }
+    eprintln!("nothing is broken by that: every digest was the right one, and only speed is not what it should be");
+    ExitCode::FAILURE
 }
 
-/// Prints the times of all that the machine has. Whether the library is too slow.
-fn row(bits: u64, size: usize) -> bool {
+/// Prints the times of all that the machine has. Where the library is too slow,
+/// says by how much.
+fn row(bits: u64, size: usize) -> Option<String> {
     let message = Generator::new(size as u64).vector(size);
     let present: Vec<&Contender> = CONTENDERS
         .iter()
@@ -64,5 +68,8 @@ fn row(bits: u64, size: usize) -> bool {
         .map(|time| format!("{:8.2} {:6.2} ", time / size as f64, time / plain))
         .collect();
     println!("{bits:4} {size:8} | {}", cells.join("| "));
-    size >= BOUND_FROM && times[contender::LIBRARY] > BOUND * plain
+    let ratio = times[contender::LIBRARY] / plain;
+    (size >= BOUND_FROM && ratio > BOUND).then(|| {
+        format!("{bits} bits, {size} bytes: {ratio:.2} times as long as plain, where at most {BOUND} is meant")
+    })
 }

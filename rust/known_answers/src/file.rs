@@ -1,20 +1,56 @@
-//! Reading a known-answer file: cases of three lines, `Len = `, `Msg = ` and
-//! `MD = `. Blank lines and lines that begin with `#` are passed over, and lines
-//! may end with CR LF.
+//! Reading a known-answer file. It has parts of three forms, as the published
+//! files do:
+//!
+//! - a message: `Len = `, `Msg = ` and `MD = `;
+//! - a text so many times: `Repeat = `, `Text = ` and `MD = `;
+//! - a chain of digests: `Seed = `, and then `j = ` and `MD = ` for j from 0 on.
+//!
+//! Blank lines and lines that begin with `#` are passed over, and lines may end
+//! with CR LF.
+
+mod lines;
 
 use crate::hex;
+use lines::Lines;
 use std::fmt::{self, Display, Formatter};
 
-/// A case of the file.
+/// Bytes of a seed.
+pub const SEED: usize = 128;
+
+/// A part of the file.
+#[derive(Debug, PartialEq, Eq)]
+pub enum Part {
+    Case(Case),
+    Chain(Chain),
+}
+
+/// A message and its digest.
 #[derive(Debug, PartialEq, Eq)]
 pub struct Case {
+    pub message: Message,
+    pub answer: Answer,
+}
+
+#[derive(Debug, PartialEq, Eq)]
+pub enum Message {
+    /// So many bits, and the bytes that hold them; none where there are no bits.
+    Bits { bits: u64, bytes: Vec<u8> },
+    /// A text, so many times.
+    Repeated { times: usize, text: Vec<u8> },
+}
+
+/// A seed and the digests that its chain has to come by, in order.
+#[derive(Debug, PartialEq, Eq)]
+pub struct Chain {
+    pub seed: [u8; SEED],
+    pub answers: Vec<Answer>,
+}
+
+/// A digest that has to come out.
+#[derive(Debug, PartialEq, Eq)]
+pub struct Answer {
     /// The line of its `MD`, counted from 1.
     pub line: usize,
-    /// Bits of the message.
-    pub bits: u64,
-    /// The bytes that hold those bits; none where there are no bits.
-    pub message: Vec<u8>,
-    /// The digest.
     pub digest: Vec<u8>,
 }
 
@@ -33,34 +69,43 @@ impl Display for Malformed {
     }
 }
 
-/// All cases of a file, which has at least one.
-pub fn read(file: &str) -> Result<Vec<Case>, Malformed> {
+/// All parts of a file, which has at least one.
+pub fn read(file: &str) -> Result<Vec<Part>, Malformed> {
     let mut lines = Lines::new(file);
-    let mut cases = Vec::new();
+    let mut parts = Vec::new();
     loop {
-        cases.push(case(&mut lines)?);
+        parts.push(part(&mut lines)?);
         if lines.at_end() {
-            return Ok(cases);
+            return Ok(parts);
         }
     }
 }
 
-fn case(lines: &mut Lines) -> Result<Case, Malformed> {
+/// The next part, by the key of its first line.
+fn part(lines: &mut Lines) -> Result<Part, Malformed> {
+    if lines.next_is("Len = ") {
+        return message(lines).map(Part::Case);
+    }
+    if lines.next_is("Repeat = ") {
+        return repeated(lines).map(Part::Case);
+    }
+    if lines.next_is("Seed = ") {
+        return chain(lines).map(Part::Chain);
+    }
+    Err(lines.malformed("'Len = ', 'Repeat = ' or 'Seed = '".into()))
+}
+
+fn message(lines: &mut Lines) -> Result<Case, Malformed> {
     let bits = lines.value("Len = ", "a number of bits", |text| text.parse().ok())?;
-    let message = lines.value("Msg = ", &message_form(bits), |text| message(bits, text))?;
-    let digest = lines.value("MD = ", "hex digits, two for each byte", |text| {
-        hex::decode(text).filter(|digest| !digest.is_empty())
-    })?;
+    let bytes = lines.value("Msg = ", &message_form(bits), |text| bytes(bits, text))?;
     Ok(Case {
-        line: lines.line,
-        bits,
-        message,
-        digest,
+        message: Message::Bits { bits, bytes },
+        answer: answer(lines)?,
     })
 }
 
 /// The bytes of a message of so many bits: `00` stands for none.
-fn message(bits: u64, text: &str) -> Option<Vec<u8>> {
+fn bytes(bits: u64, text: &str) -> Option<Vec<u8>> {
     if bits == 0 {
         return (text == "00").then(Vec::new);
     }
@@ -74,48 +119,38 @@ fn message_form(bits: u64) -> String {
     }
 }
 
-/// The lines of a file that say something, one after the other.
-struct Lines<'a> {
-    rest: Vec<(usize, &'a str)>,
-    /// The line that was read last.
-    line: usize,
-    /// The line behind the last.
-    end: usize,
+fn repeated(lines: &mut Lines) -> Result<Case, Malformed> {
+    let times = lines.value("Repeat = ", "a number of times", |text| text.parse().ok())?;
+    let text = lines.value("Text = ", "a text", |text| Some(text.as_bytes().to_vec()))?;
+    Ok(Case {
+        message: Message::Repeated { times, text },
+        answer: answer(lines)?,
+    })
 }
 
-impl<'a> Lines<'a> {
-    fn new(file: &'a str) -> Lines<'a> {
-        let numbered = file.lines().enumerate();
-        let numbered = numbered.map(|(index, line)| (index + 1, line.trim_end()));
-        let mut rest: Vec<_> = numbered
-            .filter(|(_, line)| !line.is_empty() && !line.starts_with('#'))
-            .collect();
-        rest.reverse();
-        Lines {
-            rest,
-            line: 0,
-            end: file.lines().count() + 1,
+fn chain(lines: &mut Lines) -> Result<Chain, Malformed> {
+    let seed = lines.value("Seed = ", "256 hex digits", |text| {
+        hex::decode(text)?.try_into().ok()
+    })?;
+    let mut answers = Vec::new();
+    loop {
+        let j = answers.len().to_string();
+        lines.value("j = ", &j, |text| (text == j).then_some(()))?;
+        answers.push(answer(lines)?);
+        if !lines.next_is("j = ") {
+            return Ok(Chain { seed, answers });
         }
     }
+}
 
-    fn at_end(&self) -> bool {
-        self.rest.is_empty()
-    }
-
-    /// What stands behind the key on the next line, read by `read`.
-    fn value<T>(
-        &mut self,
-        key: &str,
-        form: &str,
-        read: impl Fn(&str) -> Option<T>,
-    ) -> Result<T, Malformed> {
-        let (line, text) = self.rest.pop().unwrap_or((self.end, ""));
-        self.line = line;
-        text.strip_prefix(key).and_then(read).ok_or(Malformed {
-            line,
-            expected: format!("'{key}' and {form}"),
-        })
-    }
+fn answer(lines: &mut Lines) -> Result<Answer, Malformed> {
+    let digest = lines.value("MD = ", "hex digits, two for each byte", |text| {
+        hex::decode(text).filter(|digest| !digest.is_empty())
+    })?;
+    Ok(Answer {
+        line: lines.line(),
+        digest,
+    })
 }
 
 #[cfg(test)]

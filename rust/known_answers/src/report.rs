@@ -1,22 +1,25 @@
 //! What the library makes of a file's cases.
 
-use crate::file::{self, Case};
+use crate::file::{self, Answer, Case, Chain, Message, Part, SEED};
 use crate::hex;
 use std::fmt::Write;
+
+/// Digests between two that a chain is asked for.
+const STEPS: usize = 1_000;
 
 /// What is to be said of a file.
 pub struct Report {
     /// Lines, one for each case that differs, and then the counts; or what is
     /// malformed.
     pub text: String,
-    /// Whether nothing differs and nothing is malformed.
+    /// Whether nothing differs, nothing is malformed, and something was compared.
     pub agrees: bool,
 }
 
 /// Computes every case of a file with the library.
 pub fn of(name: &str, file: &str) -> Report {
     match file::read(file) {
-        Ok(cases) => of_cases(name, &cases),
+        Ok(parts) => of_parts(name, &parts),
         Err(malformed) => Report {
             text: format!("{name}: {malformed}\n"),
             agrees: false,
@@ -24,41 +27,117 @@ pub fn of(name: &str, file: &str) -> Report {
     }
 }
 
-fn of_cases(name: &str, cases: &[Case]) -> Report {
-    let mut text = String::new();
-    let (mut agree, mut differ, mut skipped) = (0, 0, 0);
-    for case in cases {
-        if !case.bits.is_multiple_of(8) {
-            skipped += 1;
-            continue;
+fn of_parts(name: &str, parts: &[Part]) -> Report {
+    let mut tally = Tally::new(name);
+    for part in parts {
+        match part {
+            Part::Case(case) => tally.case(case),
+            Part::Chain(chain) => tally.chain(chain),
         }
-        let (expected, computed) = (hex::encode(&case.digest), computed(case));
-        if computed == expected {
-            agree += 1;
-            continue;
-        }
-        differ += 1;
-        let Case { line, bits, .. } = case;
-        let place = format!("{name}: line {line}: Len = {bits}");
-        writeln!(text, "{place}: expected {expected}, computed {computed}")
-            .expect("a string takes any text");
     }
-    let counts = format!("{agree} agree, {differ} differ, {skipped} skipped (not whole bytes)");
-    Report {
-        text: text + &format!("{name}: {counts}\n"),
-        agrees: differ == 0,
+    tally.report()
+}
+
+/// What was seen of a file so far.
+struct Tally<'a> {
+    name: &'a str,
+    text: String,
+    agree: usize,
+    differ: usize,
+    skipped: usize,
+}
+
+impl Tally<'_> {
+    fn new(name: &str) -> Tally<'_> {
+        Tally {
+            name,
+            text: String::new(),
+            agree: 0,
+            differ: 0,
+            skipped: 0,
+        }
+    }
+
+    fn case(&mut self, Case { message, answer }: &Case) {
+        let (what, message) = match message {
+            Message::Bits { bits, .. } if bits % 8 != 0 => {
+                self.skipped += 1;
+                return;
+            }
+            Message::Bits { bits, bytes } => (format!("Len = {bits}"), bytes.clone()),
+            Message::Repeated { times, text } => (format!("Repeat = {times}"), text.repeat(*times)),
+        };
+        self.compare(&what, answer, &digest(&message, answer.digest.len()));
+    }
+
+    /// A step digests the message, of a seed's length, and the digest followed by
+    /// the message's front is the next message. A digest is asked for every so
+    /// many steps.
+    fn chain(&mut self, Chain { seed, answers }: &Chain) {
+        let mut message = *seed;
+        for (j, answer) in answers.iter().enumerate() {
+            let computed = (0..STEPS).try_fold(Vec::new(), |_, _| {
+                let digest = digest(&message, answer.digest.len())?;
+                message = next(&digest, &message);
+                Ok(digest)
+            });
+            self.compare(&format!("j = {j}"), answer, &computed);
+        }
+    }
+
+    /// Counts what came out, a digest or why there is none, and tells what differs.
+    fn compare(&mut self, what: &str, answer: &Answer, computed: &Result<Vec<u8>, String>) {
+        if computed.as_ref() == Ok(&answer.digest) {
+            self.agree += 1;
+            return;
+        }
+        self.differ += 1;
+        let place = format!("{}: line {}: {what}", self.name, answer.line);
+        let expected = hex::encode(&answer.digest);
+        let computed = match computed {
+            Ok(digest) => hex::encode(digest),
+            Err(refusal) => format!("none: {refusal}"),
+        };
+        writeln!(
+            self.text,
+            "{place}: expected {expected}, computed {computed}"
+        )
+        .expect("a string takes any text");
+    }
+
+    fn report(self) -> Report {
+        let Tally {
+            name,
+            text,
+            agree,
+            differ,
+            skipped,
+        } = self;
+        let counts = format!("{agree} agree, {differ} differ, {skipped} skipped (not whole bytes)");
+        Report {
+            text: text + &format!("{name}: {counts}\n"),
+            agrees: differ == 0 && agree > 0,
+        }
     }
 }
 
-/// The digest that the library gives, as many bytes long as the expected one, or
-/// why there is none.
-fn computed(case: &Case) -> String {
-    let mut digest = vec![0; case.digest.len()];
-    let bits = 8 * digest.len() as u64;
-    match bahmorist::digest(bits, &[0; 16], &case.message, &mut digest) {
-        Ok(()) => hex::encode(&digest),
-        Err(refusal) => format!("none: {refusal}"),
+/// The library's digest of so many bytes, or why there is none.
+fn digest(message: &[u8], size: usize) -> Result<Vec<u8>, String> {
+    let mut digest = vec![0; size];
+    let bits = 8 * size as u64;
+    match bahmorist::digest(bits, &[0; 16], message, &mut digest) {
+        Ok(()) => Ok(digest),
+        Err(refusal) => Err(refusal.to_string()),
     }
+}
+
+/// The digest, and then as much of the message's front as there is room for.
+fn next(digest: &[u8], message: &[u8; SEED]) -> [u8; SEED] {
+    let mut next = [0; SEED];
+    let (front, behind) = next.split_at_mut(digest.len());
+    front.copy_from_slice(digest);
+    behind.copy_from_slice(&message[..behind.len()]);
+    next
 }
 
 #[cfg(test)]
@@ -103,6 +182,40 @@ mod tests {
         let report = of("F", &(odd + &empty_message(DIGEST)));
         let counts = "F: 1 agree, 0 differ, 1 skipped (not whole bytes)\n";
         assert_eq!((report.text.as_str(), report.agrees), (counts, true));
+    }
+
+    #[test]
+    fn a_file_in_which_nothing_is_compared_does_not_agree() {
+        let odd = format!("Len = 5\nMsg = 98\nMD = {DIGEST}\n");
+        let report = of("F", &odd);
+        let counts = "F: 0 agree, 0 differ, 1 skipped (not whole bytes)\n";
+        assert_eq!((report.text.as_str(), report.agrees), (counts, false));
+    }
+
+    #[test]
+    fn a_text_no_times_is_the_empty_message() {
+        let report = of("F", &format!("Repeat = 0\nText = abc\nMD = {DIGEST}\n"));
+        assert!(report.agrees, "{}", report.text);
+    }
+
+    #[test]
+    fn the_digest_stands_before_the_front_of_the_message() {
+        let mut message = [7; SEED];
+        message[..3].copy_from_slice(&[1, 2, 3]);
+        let next = next(&[9; 28], &message);
+        assert_eq!(next[..28], [9; 28]);
+        assert_eq!(next[28..31], [1, 2, 3]);
+        assert_eq!(next[31..], [7; 97]);
+    }
+
+    #[test]
+    fn a_chain_that_differs_is_told() {
+        let seed = "00".repeat(SEED);
+        let report = of("F", &format!("Seed = {seed}\nj = 0\nMD = {DIGEST}\n"));
+        assert!(report.text.starts_with("F: line 3: j = 0: expected 4496cd"));
+        assert!(!report.agrees);
+        let report = of("F", &format!("Seed = {seed}\nj = 0\nMD = 00\n"));
+        assert!(report.text.contains("computed none: the digest length"));
     }
 
     #[test]

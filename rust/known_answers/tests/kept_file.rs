@@ -1,28 +1,49 @@
-//! The known-answer file that the repository keeps, by the two others: `plain`
-//! wrote it.
+//! The known-answer files that the repository keeps, by the two others: `plain`
+//! wrote them.
 
-use known_answers::{file, report};
+use known_answers::file::{self, Case, Message, Part};
+use known_answers::report;
 
-const KEPT: &str = include_str!("../ECHO.txt");
+const MESSAGES: &str = include_str!("../ECHO.txt");
+const LONG: &str = include_str!("../ECHO_long.txt");
+const CHAINS: &str = include_str!("../ECHO_chains.txt");
 
 const PUBLISHED: &str = "# published";
 const COMPUTED: &str = "# computed by rust/plain and rust/third";
+const NOT_PUBLISHED: &str = "# computed by rust/plain, not published";
 
 #[test]
 fn the_library_agrees() {
-    let report = report::of("ECHO.txt", KEPT);
-    assert!(report.agrees, "{}", report.text);
-    assert!(report
-        .text
-        .ends_with(" agree, 0 differ, 0 skipped (not whole bytes)\n"));
+    for (name, kept) in [("messages", MESSAGES), ("long", LONG), ("chains", CHAINS)] {
+        let report = report::of(name, kept);
+        assert!(report.agrees, "{}", report.text);
+        assert!(report
+            .text
+            .ends_with(" agree, 0 differ, 0 skipped (not whole bytes)\n"));
+    }
+}
+
+/// The messages of a file, with their answers.
+fn cases(kept: &str) -> Vec<Case> {
+    let parts = file::read(kept).unwrap().into_iter();
+    parts
+        .filter_map(|part| match part {
+            Part::Case(case) => Some(case),
+            Part::Chain(_) => None,
+        })
+        .collect()
 }
 
 #[test]
 fn third_agrees() {
-    for case in file::read(KEPT).unwrap() {
-        let bits = 8 * case.digest.len() as u64;
-        if let Some(digest) = third::digest(bits, &[0; 16], &case.message) {
-            assert_eq!(digest, case.digest, "line {}", case.line);
+    for Case { message, answer } in cases(MESSAGES).into_iter().chain(cases(LONG)) {
+        let message = match message {
+            Message::Bits { bytes, .. } => bytes,
+            Message::Repeated { times, text } => text.repeat(times),
+        };
+        let bits = 8 * answer.digest.len() as u64;
+        if let Some(digest) = third::digest(bits, &[0; 16], &message) {
+            assert_eq!(digest, answer.digest, "line {}", answer.line);
         }
     }
 }
@@ -31,17 +52,35 @@ fn third_agrees() {
 /// published.
 #[test]
 fn every_case_is_marked() {
-    let lines: Vec<&str> = KEPT.lines().collect();
+    let lines: Vec<&str> = MESSAGES.lines().collect();
     let mut published = 0;
-    for case in file::read(KEPT).unwrap() {
+    for Case { message, answer } in cases(MESSAGES) {
         // The line in front of `Len`, three above `MD`, which is counted from 1.
-        match lines[case.line - 4] {
+        match lines[answer.line - 4] {
             PUBLISHED => {
-                assert_eq!(case.bits, 0);
+                assert!(matches!(message, Message::Bits { bits: 0, .. }));
                 published += 1;
             }
             mark => assert_eq!(mark, COMPUTED),
         }
     }
     assert_eq!(published, 4);
+}
+
+/// The two further forms have all four published digest lengths, and no part is
+/// said to be published.
+#[test]
+fn the_further_forms_are_marked() {
+    for (kept, key) in [(LONG, "Repeat = "), (CHAINS, "Seed = ")] {
+        let lines: Vec<&str> = kept.lines().collect();
+        let begins = (0..lines.len()).filter(|&line| lines[line].starts_with(key));
+        assert_eq!(
+            begins.map(|line| lines[line - 1]).collect::<Vec<_>>(),
+            [NOT_PUBLISHED; 4]
+        );
+        for size in [28, 32, 48, 64] {
+            let digits = lines.iter().filter_map(|line| line.strip_prefix("MD = "));
+            assert!(digits.into_iter().any(|digits| digits.len() == 2 * size));
+        }
+    }
 }

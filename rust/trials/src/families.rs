@@ -2,6 +2,7 @@
 
 pub mod block_edges;
 pub mod compressions;
+pub mod descriptors;
 pub mod echosum_words;
 pub mod every_length;
 pub mod null_pointers;
@@ -11,12 +12,14 @@ pub mod random_messages;
 pub mod refusals;
 pub mod rounds_backward;
 pub mod rounds_forward;
+pub mod side_by_side;
+pub mod table_words;
 pub mod tables;
 pub mod there_and_back;
 
 use crate::family::Family;
 
-pub const ALL: [Family; 13] = [
+pub const ALL: [Family; 16] = [
     block_edges::FAMILY,
     every_length::FAMILY,
     random_messages::FAMILY,
@@ -30,4 +33,7 @@ pub const ALL: [Family; 13] = [
     program_tables::FAMILY,
     program_pieces::FAMILY,
     echosum_words::FAMILY,
+    table_words::FAMILY,
+    descriptors::FAMILY,
+    side_by_side::FAMILY,
 ];

@@ -14,6 +14,7 @@ pub mod draw;
 pub mod expected;
 pub mod families;
 pub mod family;
+pub mod folder;
 pub mod guarded;
 pub mod implementation;
 pub mod program;

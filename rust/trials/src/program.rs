@@ -9,6 +9,12 @@ use std::process::{Child, Command, Output, Stdio};
 use std::thread;
 use std::time::Duration;
 
+/// The script that runs a program.
+pub const RUN: &str = concat!(env!("CARGO_MANIFEST_DIR"), "/../../tools/run");
+
+/// The folder of the programs themselves.
+pub const PROGRAMS: &str = concat!(env!("CARGO_MANIFEST_DIR"), "/../../target/bin");
+
 /// How long a pause between two pieces is.
 const PAUSE: Duration = Duration::from_millis(2);
 
@@ -72,14 +78,11 @@ impl Job {
         }
     }
 
-    /// Runs the program; says what is wrong with what it printed and said.
+    /// Runs the program; says what is wrong with what it printed and said, and
+    /// with its status.
     pub fn check(&self) -> Result<(), String> {
-        let wrong = match self.printed() {
-            Ok(printed) if printed == (self.output.clone(), self.said.clone()) => return Ok(()),
-            Ok((output, said)) if output == self.output => {
-                format!("on standard error {}", difference(&said, &self.said))
-            }
-            Ok((output, _)) => difference(&output, &self.output),
+        let wrong = match self.ran().and_then(|ran| self.wrong(&ran)) {
+            Ok(()) => return Ok(()),
             Err(wrong) => wrong,
         };
         let words: String = self.words.iter().map(|word| format!(" {word:?}")).collect();
@@ -90,27 +93,38 @@ impl Job {
         ))
     }
 
-    /// What the program printed, and said on standard error.
-    fn printed(&self) -> Result<(String, String), String> {
+    /// The right status: 1 where it has to say something on standard error, or
+    /// to print a refusal.
+    fn status(&self) -> i32 {
+        i32::from(!self.said.is_empty() || self.output.starts_with("refused "))
+    }
+
+    /// What is wrong with what came of a run.
+    fn wrong(&self, ran: &Output) -> Result<(), String> {
+        let [output, said] = [&ran.stdout, &ran.stderr].map(|text| String::from_utf8_lossy(text));
+        if output != self.output {
+            return Err(difference(&output, &self.output));
+        }
+        if said != self.said {
+            return Err(format!(
+                "on standard error {}",
+                difference(&said, &self.said)
+            ));
+        }
+        if ran.status.code() != Some(self.status()) {
+            return Err(format!("{}, where {} is right", ran.status, self.status()));
+        }
+        Ok(())
+    }
+
+    fn ran(&self) -> Result<Output, String> {
         let mut child = self.start().map_err(|error| error.to_string())?;
         feed(&mut child, &self.pieces)?;
-        let Output {
-            status,
-            stdout,
-            stderr,
-        } = child
-            .wait_with_output()
-            .map_err(|error| error.to_string())?;
-        let [output, said] = [stdout, stderr].map(|text| String::from_utf8_lossy(&text).into());
-        if !status.success() {
-            let said: String = said;
-            return Err(format!("{status}: {}", said.trim()));
-        }
-        Ok((output, said))
+        child.wait_with_output().map_err(|error| error.to_string())
     }
 
     fn start(&self) -> std::io::Result<Child> {
-        let mut command = Command::new(concat!(env!("CARGO_MANIFEST_DIR"), "/../../tools/run"));
+        let mut command = Command::new(RUN);
         if let Some(folder) = &self.folder {
             command.current_dir(folder);
         }
@@ -205,6 +219,8 @@ pub fn check_all(jobs: &[Job]) -> Result<(), String> {
 #[cfg(test)]
 mod tests {
     use super::*;
+    use std::os::unix::process::ExitStatusExt;
+    use std::process::ExitStatus;
 
     /// A job that no program does right.
     fn impossible() -> Job {
@@ -218,9 +234,22 @@ mod tests {
     #[test]
     fn a_program_that_fails_is_seen() {
         let wrong = impossible().check().unwrap_err();
-        let case = "no_such_program, 1 pieces, input 010203: exit status: 2";
+        let case = "no_such_program, 1 pieces, input 010203: on standard error line 1 is ";
         assert!(wrong.starts_with(case), "{wrong}");
         assert!(wrong.contains("run 'make' first"), "{wrong}");
+    }
+
+    #[test]
+    fn a_status_that_is_wrong_is_seen() {
+        let job = Job::of_table(LIST, at_once(vec![1, 2, 3]));
+        let ran = |status| Output {
+            status: ExitStatus::from_raw(status << 8),
+            stdout: job.output.clone().into(),
+            stderr: Vec::new(),
+        };
+        assert!(job.output.starts_with("refused "));
+        assert_eq!(job.wrong(&ran(1)), Ok(()));
+        assert!(job.wrong(&ran(0)).is_err());
     }
 
     #[test]

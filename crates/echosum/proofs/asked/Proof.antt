@@ -42,6 +42,18 @@ part-take-end c = search needs
 take-requires : tie.Need-take-requires Inv-loop μ-loop
 take-requires c κs = search needs
 
+sub-say-bad-word : tie.Need-sub-say-bad-word Inv-loop μ-loop
+sub-say-bad-word c = search needs
+
+part-say-bad-word-start : tie.Need-part-say-bad-word-start Inv-loop μ-loop
+part-say-bad-word-start c = search needs
+
+part-say-bad-word-end : tie.Need-part-say-bad-word-end Inv-loop μ-loop
+part-say-bad-word-end c = search needs
+
+say-bad-word-requires : tie.Need-say-bad-word-requires Inv-loop μ-loop
+say-bad-word-requires c κs = search needs
+
 add-i : tie.Need-add-i Inv-loop μ-loop
 add-i c = search needs
 
@@ -53,6 +65,9 @@ loop-again c = search needs
 
 returns : tie.Need-returns Inv-loop μ-loop
 returns c = search needs
+
+returns-2 : tie.Need-returns-2 Inv-loop μ-loop
+returns-2 c = search needs
 
 pub asked-spec : {M : Type 1} → statement M
 asked-spec =
@@ -70,7 +85,12 @@ asked-spec =
     part-take-start
     part-take-end
     take-requires
+    sub-say-bad-word
+    part-say-bad-word-start
+    part-say-bad-word-end
+    say-bad-word-requires
     add-i
     loop-less
     loop-again
-    returns)
+    returns
+    returns-2)

@@ -7,10 +7,10 @@ use Rattle.echosum.proofs.sum_files.Statement.{statement}
 use Rattle.echosum.proofs.sum_files.Tie as tie
 
 abbrev Inv-loop : tie.InvT-loop
-Inv-loop session room₀ options₀ count i₀ room options i = length room ≡ 4096
+Inv-loop session room₀ options₀ goes-on₀ count i₀ room options goes-on i = length room ≡ 4096
 
 abbrev μ-loop : tie.MeasureT-loop
-μ-loop session room₀ options₀ count i₀ room options i = count - i
+μ-loop session room₀ options₀ goes-on₀ count i₀ room options goes-on i = count - i
 
 buffer-requires : tie.Need-buffer-requires Inv-loop μ-loop
 buffer-requires c κs = search needs
@@ -66,6 +66,9 @@ loop-again c = search needs
 returns : tie.Need-returns Inv-loop μ-loop
 returns c = search needs
 
+returns-2 : tie.Need-returns-2 Inv-loop μ-loop
+returns-2 c = search needs
+
 pub sum-files-spec : {M : Type 1} → statement M
 sum-files-spec =
     tie.close
@@ -89,4 +92,5 @@ sum-files-spec =
     add-i
     loop-less
     loop-again
-    returns)
+    returns
+    returns-2)

@@ -2,10 +2,10 @@
 //! on good words and bad ones.
 
 use crate::family::{Family, Run};
+use crate::folder::Folder;
 use crate::program::{at_once, check_all, Job};
 use plain::{digest, hex};
-use std::path::{Path, PathBuf};
-use std::{env, fs, process};
+use std::path::Path;
 
 pub const FAMILY: Family = Family {
     name: "command lines of echosum",
@@ -14,7 +14,10 @@ pub const FAMILY: Family = Family {
 
 pub const NAME: &str = "echosum";
 
-const USAGE: &str = "usage: echosum [-b BITS] [-s SALT] [FILE...] (the exit status is always 0: all went well if standard error is empty)\n";
+const USAGE: &str = "usage: echosum [-b BITS] [-s SALT] [FILE...]";
+
+/// What `--help` prints behind the usage.
+const HELP: &str = "Prints the ECHO digest of each FILE, or of standard input. BITS is 128 to 512 by eights, and 256 where not given; SALT is 32 hex digits, and zeros where not given.";
 
 const ZEROS: [u8; 16] = [0; 16];
 const SALT: [u8; 16] = *b"\x00\x0a\xa0\xff456789abcdef";
@@ -24,17 +27,25 @@ const SALT_WORD: &str = "000aA0fF343536373839616263646566";
 const INPUT: &[u8] = b"standard input";
 
 /// Names and lengths of the files that are there. One is larger than what the
-/// program reads at a time, and one has the name of a flag.
-const FILES: [(&str, usize); 5] = [
+/// program reads at a time, one has the name of a flag, and some have bytes that
+/// a line can't hold as they are.
+const FILES: [(&str, usize); 8] = [
     ("empty", 0),
     ("short", 3),
     ("block", 192),
     ("large", 200_000),
     ("-b", 1),
+    ("line\nend", 5),
+    ("carriage\rreturn", 6),
+    ("back\\slash\n", 7),
 ];
 
 fn run(run: &mut Run) -> Result<(), String> {
-    let folder = Folder::new()?;
+    let folder = FILES
+        .iter()
+        .try_fold(Folder::new("echosum_words")?, |folder, (name, _)| {
+            folder.with(name, &content(name))
+        })?;
     let jobs = jobs(&folder.0);
     check_all(&jobs)?;
     run.count(jobs.len());
@@ -45,7 +56,20 @@ fn run(run: &mut Run) -> Result<(), String> {
 pub fn line(bits: u64, salt: &[u8], message: &[u8], name: &str) -> String {
     let salt = salt.try_into().expect("sixteen bytes");
     let digest = digest::digest(bits, &salt, message);
-    format!("{}  {name}\n", hex::encode(&digest))
+    named(&format!("{}  ", hex::encode(&digest)), name, "")
+}
+
+/// A line with a name in it, escaped as `sha256sum` does.
+pub fn named(before: &str, name: &str, after: &str) -> String {
+    let mark = match name.contains(['\\', '\n', '\r']) {
+        true => "\\",
+        false => "",
+    };
+    let escaped = name
+        .replace('\\', "\\\\")
+        .replace('\n', "\\n")
+        .replace('\r', "\\r");
+    format!("{mark}{before}{escaped}{after}\n")
 }
 
 fn jobs(folder: &Path) -> Vec<Job> {
@@ -63,11 +87,23 @@ fn jobs(folder: &Path) -> Vec<Job> {
             .map(|name| line(bits, &salt, &content(name), name));
         job(words, lines.collect(), "")
     };
-    let usage = |words: &[&str]| job(words, String::new(), USAGE);
+    let bad_word = |words: &[&str], bad: &str| {
+        let said = named("echosum: bad word ", bad, &format!(" ({USAGE})"));
+        job(words, String::new(), &said)
+    };
+    let no_value = |words: &[&str], flag: &str| {
+        let said = format!("echosum: no value behind {flag} ({USAGE})\n");
+        job(words, String::new(), &said)
+    };
+    let help = |words: &[&str]| job(words, format!("{USAGE}\n{HELP}\n"), "");
     let bad_bits = |bits: &str| {
         let said = format!("echosum: bad bits {bits}\n");
         job(&["-b", bits, "short"], String::new(), &said)
     };
+    let long_salt = format!("{SALT_WORD}0");
+    let odd_salt = SALT_WORD.replace('F', "g");
+    // As long as a name can be, and every byte escaped: the longest line.
+    let long_name = "\\".repeat(4_095);
     let missing = "echosum: missing: No such file or directory\n";
     vec![
         good(&[], 256, ZEROS, &["-"]),
@@ -96,7 +132,28 @@ fn jobs(folder: &Path) -> Vec<Job> {
             line(256, &ZEROS, b"", "empty") + &line(256, &ZEROS, &content("short"), "short"),
             missing,
         ),
+        good(
+            &["line\nend", "carriage\rreturn", "back\\slash\n"],
+            256,
+            ZEROS,
+            &["line\nend", "carriage\rreturn", "back\\slash\n"],
+        ),
+        job(
+            &["no\nfile\\"],
+            String::new(),
+            &named("echosum: ", "no\nfile\\", ": No such file or directory"),
+        ),
         job(&["."], String::new(), "echosum: .: Is a directory\n"),
+        job(
+            &["short/x"],
+            String::new(),
+            "echosum: short/x: Not a directory\n",
+        ),
+        job(
+            &[&long_name],
+            String::new(),
+            &named("echosum: ", &long_name, ": File name too long"),
+        ),
         job(
             &[""],
             String::new(),
@@ -107,18 +164,21 @@ fn jobs(folder: &Path) -> Vec<Job> {
         bad_bits("120"),
         bad_bits("520"),
         bad_bits("1000000"),
-        usage(&["-b"]),
-        usage(&["-s"]),
-        usage(&["-b", "abc", "short"]),
-        usage(&["-b", "", "short"]),
-        usage(&["-b", "-256", "short"]),
-        usage(&["-b256", "short"]),
-        usage(&["-s", "00", "short"]),
-        usage(&["-s", &format!("{SALT_WORD}0"), "short"]),
-        usage(&["-s", &SALT_WORD.replace('F', "g"), "short"]),
-        usage(&["-x", "short"]),
-        usage(&["short", "--help"]),
-        usage(&["short", "-b"]),
+        no_value(&["-b"], "-b"),
+        no_value(&["-s"], "-s"),
+        no_value(&["short", "-b"], "-b"),
+        bad_word(&["-b", "abc", "short"], "abc"),
+        bad_word(&["-b", "", "short"], ""),
+        bad_word(&["-b", "-256", "short"], "-256"),
+        bad_word(&["-b256", "short"], "-b256"),
+        bad_word(&["-s", "00", "short"], "00"),
+        bad_word(&["-s", &long_salt, "short"], &long_salt),
+        bad_word(&["-s", &odd_salt, "short"], &odd_salt),
+        bad_word(&["-x", "short"], "-x"),
+        bad_word(&["short", "-y", "-x"], "-y"),
+        bad_word(&["-\n"], "-\n"),
+        help(&["--help"]),
+        help(&["short", "--help", "-x"]),
     ]
 }
 
@@ -127,32 +187,6 @@ fn content(name: &str) -> Vec<u8> {
     match FILES.iter().find(|file| file.0 == name) {
         Some(&(_, length)) => (0..length).map(|i| (i * 7 + i / 256) as u8).collect(),
         None => INPUT.into(),
-    }
-}
-
-/// A folder of its own with the files in it, which goes when it is dropped.
-struct Folder(PathBuf);
-
-impl Folder {
-    fn new() -> Result<Folder, String> {
-        let folder = Folder(env::temp_dir().join(format!("echosum_words.{}", process::id())));
-        folder.fill().map_err(|error| error.to_string())?;
-        Ok(folder)
-    }
-
-    fn fill(&self) -> std::io::Result<()> {
-        fs::create_dir(&self.0)?;
-        for (name, _) in FILES {
-            fs::write(self.0.join(name), content(name))?;
-        }
-        Ok(())
-    }
-}
-
-impl Drop for Folder {
-    fn drop(&mut self) {
-        // What can't be removed is left to the system's own cleaning.
-        let _ = fs::remove_dir_all(&self.0);
     }
 }
 

@@ -1,6 +1,5 @@
 -- `sum` is safe: a digest that was read fits its room. Assumes nothing.
 use native.Mathlib.Omega.{arith}
-use lib.ListN.{length-take}
 use borrow.Author.Needs.{needs}
 use Rattle.echo.proofs.Laws.Refusals.{read-fits}
 use Rattle.echosum.proofs.summing.sum.Statement.{statement}
@@ -28,12 +27,10 @@ part-print-line-start : tie.Need-part-print-line-start
 part-print-line-start c = search needs
 
 part-print-line-end : tie.Need-part-print-line-end
-part-print-line-end c =
-    omega (arith, read-fits _ _ (c .before .before .before .before .read .ensures .0) (c .before .before .if2 .left))
+part-print-line-end c = omega (arith, read-fits _ _ (c .before .before .before .before .read .ensures .0) (c .before .before .if2 .left))
 
 print-line-requires : tie.Need-print-line-requires
-print-line-requires c κs =
-    simp length-take (omega (arith, read-fits _ _ (c .before .before .before .before .before .read .ensures .0) (c .before .before .before .if2 .left)))
+print-line-requires c κs = search needs
 
 returns-3 : tie.Need-returns-3
 returns-3 c = search needs

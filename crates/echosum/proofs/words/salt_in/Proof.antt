@@ -1,9 +1,7 @@
 -- `salt_in` meets its contract: the bytes so far go on over the pairs to come. Assumes nothing.
-use mathlib.Core.Path.{_∙_, _≡_, refl, sym}
+use mathlib.Core.Path.{_≡_}
 use Prim.Native.Nat.{_*_, _-_, _≤_}
-use native.Mathlib.Omega.{arith}
-use lib.ListN.{drop, length, length-set, take}
-use lib.Seq.{take-all}
+use lib.ListN.{drop, length, take}
 use borrow.Author.Needs.{needs}
 use Rattle.echosum.specs.Words.{noSalt, saltFrom, saltOf}
 use Rattle.echosum.proofs.Laws.Words.{no-high, no-low, no-salt, salt-begins, salt-ends, salt-goes-on}
@@ -22,10 +20,10 @@ abbrev μ-loop : tie.MeasureT-loop
 μ-loop word none bytes₀ i₀ bytes i = 16 - i
 
 returns : tie.Need-returns Inv-loop μ-loop
-returns c = no-salt _ (c .if1 .taken)
+returns c = search no-salt
 
 loop-holds : tie.Need-loop-holds Inv-loop μ-loop
-loop-holds c = (omega arith, c .if1 .left, refl, refl, salt-begins _ (c .if1 .left))
+loop-holds c = (search needs, search needs, search needs, search needs, search salt-begins)
 
 mul-nibble : tie.Need-mul-nibble Inv-loop μ-loop
 mul-nibble c = search needs
@@ -49,14 +47,10 @@ nibble-requires-2 : tie.Need-nibble-requires-2 Inv-loop μ-loop
 nibble-requires-2 c κs = search needs
 
 returns-2 : tie.Need-returns-2 Inv-loop μ-loop
-returns-2 c =
-    let L = c .before .before .before .before .before .before .loop in
-    sym (L .inv .4 ∙ no-high _ (L .i) (omega arith) _ _ (c .before .before .before .nibble .ensures) (c .before .nibble2 .ensures) (L .bytes) (c .if2 .taken))
+returns-2 c = search no-high
 
 returns-3 : tie.Need-returns-3 Inv-loop μ-loop
-returns-3 c =
-    let L = c .before .before .before .before .before .before .before .loop in
-    sym (L .inv .4 ∙ no-low _ (L .i) (omega arith) _ _ (c .before .before .before .before .nibble .ensures) (c .before .before .nibble2 .ensures) (L .bytes) (c .before .if2 .left) (c .if3 .taken))
+returns-3 c = search no-low
 
 mul-bytes : tie.Need-mul-bytes Inv-loop μ-loop
 mul-bytes c = search needs
@@ -74,20 +68,10 @@ loop-less : tie.Need-loop-less Inv-loop μ-loop
 loop-less c = search needs
 
 loop-again : tie.Need-loop-again Inv-loop μ-loop
-loop-again c =
-    let L = c .before .before .before .before .before .before .before .loop in (
-      omega arith,
-      L .inv .1,
-      simp length-set (L .inv .2),
-      refl,
-      L .inv .4 ∙ salt-goes-on _ (L .i) (omega arith) _ _ (c .before .before .before .before .nibble .ensures) (c .before .before .nibble2 .ensures) (L .bytes) (c .before .if2 .left) (c .if3 .left) (omega arith),
-    )
+loop-again c = (search needs, search needs, search needs, search needs, search salt-goes-on)
 
 returns-4 : tie.Need-returns-4 Inv-loop μ-loop
-returns-4 c =
-    let L = c .before .loop in
-    let all : take (L .i) (L .bytes) ≡ L .bytes = take-all (L .i) (L .bytes) (omega arith) in
-    sym (L .inv .4 ∙ salt-ends _ (2 * L .i) (omega arith) (take (L .i) (L .bytes)) ∙ rw all)
+returns-4 c = search salt-ends
 
 pub salt-in-spec : {M : Type 1} → statement M
 salt-in-spec =

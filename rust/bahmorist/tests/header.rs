@@ -1,0 +1,62 @@
+//! `include/bahmorist.h` and this package say the same.
+
+use bahmorist::Refusal;
+
+const HEADER: &str = include_str!("../../../include/bahmorist.h");
+
+/// The numbers that the header gives to names with this beginning.
+fn numbers(beginning: &str) -> Vec<(&'static str, u8)> {
+    HEADER
+        .lines()
+        .filter_map(|line| line.trim().strip_prefix(beginning))
+        .filter_map(|line| line.split_once(" = "))
+        .map(|(name, rest)| {
+            let digits = rest.split(|c: char| !c.is_ascii_digit()).next();
+            (name, digits.unwrap_or("").parse().expect("a number"))
+        })
+        .collect()
+}
+
+#[test]
+fn each_refusal_has_its_number_in_the_header() {
+    let named = numbers("BAHMORIST_REFUSED_");
+    for (name, number) in &named {
+        let refusal = Refusal::from_number(*number).expect("a refusal");
+        let name = name.replace('_', "").to_lowercase();
+        assert_eq!(format!("{refusal:?}").to_lowercase(), name);
+    }
+    // All but the one that is for sessions.
+    let left_out: Vec<u8> = (1..=11)
+        .filter(|number| named.iter().all(|(_, named)| named != number))
+        .collect();
+    assert_eq!(left_out, [Refusal::Session.number()]);
+}
+
+#[test]
+fn the_header_has_this_version() {
+    let version = env!("CARGO_PKG_VERSION");
+    assert!(HEADER.contains(&format!("#define BAHMORIST_VERSION \"{version}\"\n")));
+    let parts = version.split('.').map(|part| part.parse().unwrap());
+    let number = parts.fold(0, |number: u32, part: u32| 100 * number + part);
+    assert!(HEADER.contains(&format!("#define BAHMORIST_VERSION_NUMBER {number} ")));
+}
+
+#[test]
+fn each_kind_has_the_body_that_the_library_reads() {
+    let sizes = [("NODE", 6), ("FLOOR", 2), ("HOLD", 4), ("NOTE", 32)];
+    for (name, size) in sizes {
+        assert!(HEADER.contains(&format!("#define BAHMORIST_{name}_BYTES {size}\n")));
+        for (kind, number) in numbers("BAHMORIST_KIND_") {
+            if kind.starts_with(name) {
+                let mut table = vec![number];
+                table.resize(1 + size, 0);
+                assert!(accepted(&table), "{kind}");
+                assert!(!accepted(&table[..size]), "{kind}");
+            }
+        }
+    }
+}
+
+fn accepted(table: &[u8]) -> bool {
+    bahmorist::fingerprint(&[0; 16], table, &mut [0; 32]).is_ok()
+}

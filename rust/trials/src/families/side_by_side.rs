@@ -1,0 +1,117 @@
+//! Many runs of `echosum` at once, whose lines all go to one file: each line has to
+//! come out whole, with the digest of the name that stands in it.
+
+use super::echosum_words::{line, named, NAME};
+use crate::family::{Family, Run};
+use crate::folder::Folder;
+use crate::program::RUN;
+use std::fs::{self, File};
+use std::process::{Child, Command, Stdio};
+
+pub const FAMILY: Family = Family {
+    name: "lines of runs side by side",
+    run,
+};
+
+/// How many runs go on at a time, how often, and the files that each is given.
+const RUNS: usize = 8;
+const ROUNDS: usize = 4;
+const FILES: usize = 12;
+
+fn run(run: &mut Run) -> Result<(), String> {
+    let mut folder = Folder::new("side_by_side")?;
+    for number in 0..RUNS * FILES {
+        folder = folder.with(&name(number), &content(number))?;
+    }
+    for _ in 0..ROUNDS {
+        run.count(round(&folder).map_err(|error| error.to_string())??);
+    }
+    Ok(())
+}
+
+/// One round: how many lines came out, all of them right.
+fn round(folder: &Folder) -> std::io::Result<Result<usize, String>> {
+    let together = folder.0.join("together");
+    let to = File::options().create(true).append(true).open(&together)?;
+    let children: Vec<Child> = (0..RUNS)
+        .map(|number| start(folder, number, &to))
+        .collect::<Result<_, _>>()?;
+    for mut child in children {
+        child.wait()?;
+    }
+    let text = fs::read_to_string(&together)?;
+    fs::remove_file(&together)?;
+    Ok(same(&text, expected()))
+}
+
+/// A run over its files, and one that is missing, with a complaint about it.
+fn start(folder: &Folder, number: usize, to: &File) -> std::io::Result<Child> {
+    Command::new(RUN)
+        .arg(NAME)
+        .args((0..FILES).map(|file| name(number * FILES + file)))
+        .arg(missing(number))
+        .current_dir(&folder.0)
+        .stdin(Stdio::null())
+        .stdout(to.try_clone()?)
+        .stderr(to.try_clone()?)
+        .spawn()
+}
+
+fn name(number: usize) -> String {
+    match number % 3 {
+        0 => format!("file {number}"),
+        1 => format!("line\nend {number}"),
+        _ => format!("{}{number}", "long ".repeat(40)),
+    }
+}
+
+fn missing(number: usize) -> String {
+    format!("missing\\{number}")
+}
+
+fn content(number: usize) -> Vec<u8> {
+    number.to_le_bytes().repeat(number)
+}
+
+/// All lines of a round, in order.
+fn expected() -> Vec<String> {
+    let digests =
+        (0..RUNS * FILES).map(|number| line(256, &[0; 16], &content(number), &name(number)));
+    let complaints =
+        (0..RUNS).map(|number| named("echosum: ", &missing(number), ": No such file or directory"));
+    let mut lines: Vec<String> = digests.chain(complaints).collect();
+    lines.sort();
+    lines
+}
+
+/// Whether a text is these lines in some order: how many, or one that is not.
+fn same(text: &str, expected: Vec<String>) -> Result<usize, String> {
+    let mut lines: Vec<&str> = text.split_inclusive('\n').collect();
+    lines.sort();
+    match lines
+        .iter()
+        .find(|line| !expected.iter().any(|right| right == *line))
+    {
+        Some(line) => Err(format!("a line that is wrong: {line:?}")),
+        None if lines == expected => Ok(lines.len()),
+        None => Err(format!(
+            "{} lines, where {} are right",
+            lines.len(),
+            expected.len()
+        )),
+    }
+}
+
+#[cfg(test)]
+mod tests {
+    use super::*;
+
+    #[test]
+    fn a_line_in_pieces_is_seen() {
+        let lines = || vec!["a  x\n".to_string(), "b  y\n".to_string()];
+        assert_eq!(same("b  y\na  x\n", lines()), Ok(2));
+        assert!(same("b  x\na  y\n", lines()).is_err());
+        assert!(same("a  x\n", lines()).is_err());
+        assert!(same("a  x\nb  y\nb  y\n", lines()).is_err());
+    }
+}

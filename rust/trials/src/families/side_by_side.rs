@@ -97,7 +97,7 @@ fn same(text: &str, expected: &[String]) -> Result<usize, String> {
     lines.sort();
     let wrong = |line: &&&str| {
         expected
-            .binary_search_by(|right| (&**right).cmp(**line))
+            .binary_search_by(|right| right.as_str().cmp(line))
             .is_err()
     };
     match lines.iter().find(wrong) {

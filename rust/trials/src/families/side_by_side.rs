@@ -13,24 +13,27 @@ pub const FAMILY: Family = Family {
     run,
 };
 
-/// How many runs go on at a time, how often, and the files that each is given.
+/// How many runs go on at a time, how often, and the files that each is given:
+/// enough that the runs last longer than starting them takes.
 const RUNS: usize = 8;
-const ROUNDS: usize = 4;
-const FILES: usize = 12;
+const ROUNDS: usize = 3;
+const FILES: usize = 240;
 
 fn run(run: &mut Run) -> Result<(), String> {
     let mut folder = Folder::new("side_by_side")?;
-    for number in 0..RUNS * FILES {
+    for number in 0..FILES {
         folder = folder.with(&name(number), &content(number))?;
     }
+    let expected = expected();
     for _ in 0..ROUNDS {
-        run.count(round(&folder).map_err(|error| error.to_string())??);
+        let text = round(&folder).map_err(|error| error.to_string())?;
+        run.count(same(&text, &expected)?);
     }
     Ok(())
 }
 
-/// One round: how many lines came out, all of them right.
-fn round(folder: &Folder) -> std::io::Result<Result<usize, String>> {
+/// What came of one round.
+fn round(folder: &Folder) -> std::io::Result<String> {
     let together = folder.0.join("together");
     let to = File::options().create(true).append(true).open(&together)?;
     let children: Vec<Child> = (0..RUNS)
@@ -41,15 +44,16 @@ fn round(folder: &Folder) -> std::io::Result<Result<usize, String>> {
     }
     let text = fs::read_to_string(&together)?;
     fs::remove_file(&together)?;
-    Ok(same(&text, expected()))
+    Ok(text)
 }
 
-/// A run over its files, and one that is missing, with a complaint about it.
+/// A run over all files, from one of its own on, and over one that is missing.
 fn start(folder: &Folder, number: usize, to: &File) -> std::io::Result<Child> {
+    let first = number * FILES / RUNS;
     Command::new(RUN)
         .arg(NAME)
-        .args((0..FILES).map(|file| name(number * FILES + file)))
         .arg(missing(number))
+        .args((first..first + FILES).map(|file| name(file % FILES)))
         .current_dir(&folder.0)
         .stdin(Stdio::null())
         .stdout(to.try_clone()?)
@@ -70,28 +74,33 @@ fn missing(number: usize) -> String {
 }
 
 fn content(number: usize) -> Vec<u8> {
-    number.to_le_bytes().repeat(number)
+    number.to_le_bytes().repeat(500)
 }
 
 /// All lines of a round, in order.
 fn expected() -> Vec<String> {
-    let digests =
-        (0..RUNS * FILES).map(|number| line(256, &[0; 16], &content(number), &name(number)));
+    let digests = (0..FILES).map(|number| line(256, &[0; 16], &content(number), &name(number)));
     let complaints =
         (0..RUNS).map(|number| named("echosum: ", &missing(number), ": No such file or directory"));
-    let mut lines: Vec<String> = digests.chain(complaints).collect();
+    let each: Vec<String> = digests.collect();
+    let mut lines: Vec<String> = (0..RUNS)
+        .flat_map(|_| each.clone())
+        .chain(complaints)
+        .collect();
     lines.sort();
     lines
 }
 
-/// Whether a text is these lines in some order: how many, or one that is not.
-fn same(text: &str, expected: Vec<String>) -> Result<usize, String> {
+/// Whether a text is these lines in some order: how many, or one that is wrong.
+fn same(text: &str, expected: &[String]) -> Result<usize, String> {
     let mut lines: Vec<&str> = text.split_inclusive('\n').collect();
     lines.sort();
-    match lines
-        .iter()
-        .find(|line| !expected.iter().any(|right| right == *line))
-    {
+    let wrong = |line: &&&str| {
+        expected
+            .binary_search_by(|right| right.as_str().cmp(line))
+            .is_err()
+    };
+    match lines.iter().find(wrong) {
         Some(line) => Err(format!("a line that is wrong: {line:?}")),
         None if lines == expected => Ok(lines.len()),
         None => Err(format!(
@@ -108,10 +117,10 @@ mod tests {
 
     #[test]
     fn a_line_in_pieces_is_seen() {
-        let lines = || vec!["a  x\n".to_string(), "b  y\n".to_string()];
-        assert_eq!(same("b  y\na  x\n", lines()), Ok(2));
-        assert!(same("b  x\na  y\n", lines()).is_err());
-        assert!(same("a  x\n", lines()).is_err());
-        assert!(same("a  x\nb  y\nb  y\n", lines()).is_err());
+        let lines = ["a  x\n".to_string(), "b  y\n".to_string()];
+        assert_eq!(same("b  y\na  x\n", &lines), Ok(2));
+        assert!(same("b  x\na  y\n", &lines).is_err());
+        assert!(same("a  x\n", &lines).is_err());
+        assert!(same("a  x\nb  y\nb  y\n", &lines).is_err());
     }
 }

@@ -23,7 +23,7 @@ sixteen-requires : tie.Need-sixteen-requires
 sixteen-requires c κs = search needs
 
 initial-requires : tie.Need-initial-requires
-initial-requires c κs = search admitted-most
+initial-requires c κs = search (needs, admitted-most)
 
 returns-3 : tie.Need-returns-3
 returns-3 c = search open-0

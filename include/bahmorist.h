@@ -92,9 +92,9 @@ BAHMORIST_LOOK_AT uint8_t bahmorist_rounds_back(uint8_t *square, size_t square_l
 BAHMORIST_LOOK_AT uint8_t bahmorist_compress(uint8_t *chaining, size_t chaining_len, const uint8_t *block, size_t block_len, uint64_t counter,
                                              const uint8_t *salt, size_t salt_len);
 
-/* Puts the fingerprint of a steering table, 32 bytes, at the front of out; bytes behind it stay. It is the 256-bit digest of all bodies, without
- * the kind bytes, joined in order. Refuses by 2, 5, 8, 9 or 10. place, which is not NULL, gets the place of the record's kind byte with 9 and
- * 10, and else 0. */
+/* Puts the fingerprint of a steering table, 32 bytes, at the front of out; bytes behind it stay. It is the 256-bit digest of the whole table,
+ * kind bytes included. Refuses by 2, 5, 8, 9 or 10. place, which is not NULL, gets the place of the record's kind byte with 9 and 10, and
+ * else 0. */
 BAHMORIST_LOOK_AT uint8_t bahmorist_fingerprint(const uint8_t *salt, size_t salt_len, const uint8_t *table, size_t table_len, uint8_t *out,
                                                 size_t out_len, uint64_t *place);
 

@@ -63,7 +63,7 @@ pub extern "C" fn bahmorist_fingerprint(
     place: &mut u64,
 ) -> u8
     ensures refusal { λ r. ⌜ r ≡ fingerprintAnswer (length (now (salt .entry))) (length (now (out .entry))) (parse (now (table .entry))) .refusal ⌝ }
-    ensures left { λ _. ⌜ now (out .exit) ≡ fingerprintLeaves (now (salt .entry)) (parse (now (table .entry))) (now (out .entry)) ⌝ }
+    ensures left { λ _. ⌜ now (out .exit) ≡ fingerprintLeaves (now (salt .entry)) (now (table .entry)) (now (out .entry)) ⌝ }
     ensures place { λ _. ⌜ now (place .exit) ≡ fingerprintAnswer (length (now (salt .entry))) (length (now (out .entry))) (parse (now (table .entry))) .place ⌝ }
 {
     let answer = steering::fingerprint(salt, table, out);

@@ -5,7 +5,8 @@ use mathlib.Core.List.{List, _∷_, _++_}
 use Prim.Native.Nat.{ℕ, suc, _+_, _-_, _<_, _≤_}
 use native.Mathlib.Omega.{arith}
 use lib.ListN.{drop, getD, length, take}
-use Rattle.steering.specs.Fingerprint.{fingerprintAnswer, fingerprintLeaves}
+use Rattle.echo.specs.Digest.{digestOf}
+use Rattle.steering.specs.Fingerprint.{fingerprintAnswer, fingerprintLeaves, message}
 use Rattle.steering.specs.Numbers.{AreBytes}
 use Rattle.steering.specs.Parsing.{AllFit, accepted, parse, refused, tableOf}
 use Rattle.steering.specs.Reading.{readAt}
@@ -63,8 +64,28 @@ pub a-record-is-what-stands-there : (t : List ℕ) (place next : ℕ) (r : Recor
     → (kindOf r ≡ getD t place 0) × (bodyOf r ≡ take (next - (place + 1)) (drop (place + 1) t)) × Fits r
 a-record-is-what-stands-there t place next r b e = outcomes.stands-there t b place next r e
 
+-- ---- the fingerprint
+
+-- two accepted tables have the same message exactly when they have the same records in the same order
+pub same-message-exactly : (t u : List ℕ) (rs qs : List Record)
+    → AreBytes t
+    → AreBytes u
+    → parse t ≡ accepted rs
+    → parse u ≡ accepted qs
+    → (message t ≡ message u) ↔ (rs ≡ qs)
+same-message-exactly = fingerprints.same-message-exactly
+
+-- the fingerprint of an accepted table is the digest of its message
+pub an-accepted-table-is-digested : (salt t room : List ℕ) (rs : List Record)
+    → length salt ≡ 16
+    → 32 ≤ length room
+    → parse t ≡ accepted rs
+    → (fingerprintAnswer (length salt) (length room) (parse t) ≡ record { refusal = 0; place = 0 })
+    × (fingerprintLeaves salt t room ≡ digestOf 256 salt (message t) ++ drop 32 room)
+an-accepted-table-is-digested = fingerprints.digested
+
 -- a refusal, whose number is k + 1, leaves the room
 pub a-refused-fingerprint-leaves-the-room : (k : ℕ) (salt t room : List ℕ)
     → fingerprintAnswer (length salt) (length room) (parse t) .refusal ≡ suc k
-    → fingerprintLeaves salt (parse t) room ≡ room
+    → fingerprintLeaves salt t room ≡ room
 a-refused-fingerprint-leaves-the-room k salt t room e = sym (fingerprints.left-alone salt t room _ refl (λ z. omega (arith, e, z)))

@@ -1,13 +1,11 @@
--- The fingerprint of a table: the 256-bit digest of all bodies joined in order. Assumes nothing.
-use mathlib.Core.List.{List, [], _++_}
+-- The fingerprint of a table: the 256-bit digest of the whole table. Assumes nothing.
+use mathlib.Core.List.{List, _++_}
 use Prim.Native.Nat.{ℕ}
 use lib.Dec.{eqb, ltb}
 use lib.ListN.{drop, length}
-use Rattle.echo.specs.declared.session.Answer.{Answer}
 use Rattle.echo.specs.Digest.{digestOf}
-use Rattle.echo.specs.Session.{addBytes, opened}
 use Rattle.steering.specs.Numbers.{either}
-use Rattle.steering.specs.Parsing.{Parsed, accepted, bodies, parse, refused}
+use Rattle.steering.specs.Parsing.{Parsed, accepted, parse, refused}
 use Rattle.steering.specs.declared.fingerprinting.Fingerprinted.{Fingerprinted}
 
 abbrev pub refusalOf : Parsed → ℕ
@@ -18,13 +16,9 @@ abbrev pub placeOf : Parsed → ℕ
 placeOf (accepted rs) = 0
 placeOf (refused number place) = place
 
-abbrev pub bodiesOf : Parsed → List ℕ
-bodiesOf (accepted rs) = bodies rs
-bodiesOf (refused number place) = []
-
--- the session of all bodies, for the contract of a private function
-unfoldable pub joinedAnswer : List ℕ → List ℕ → Answer
-joinedAnswer salt table = record { refusal = 0; session = addBytes (opened 256 salt) (bodiesOf (parse table)) }
+-- what is digested: the whole table, kind bytes included
+abbrev pub message : List ℕ → List ℕ
+message table = table
 
 -- 2 where the salt isn't 16 bytes, 5 where the room is under 32, and then the table's own refusal
 unfoldable pub fingerprintAnswer : ℕ → ℕ → Parsed → Fingerprinted
@@ -34,6 +28,6 @@ fingerprintAnswer saltLength room parsed =
     (record { refusal = 2; place = 0 })
 
 -- the digest and the bytes behind it, or the room as it was
-unfoldable pub fingerprintLeaves : List ℕ → Parsed → List ℕ → List ℕ
-fingerprintLeaves salt parsed room =
-    either (eqb (fingerprintAnswer (length salt) (length room) parsed .refusal) 0) (digestOf 256 salt (bodiesOf parsed) ++ drop 32 room) room
+unfoldable pub fingerprintLeaves : List ℕ → List ℕ → List ℕ → List ℕ
+fingerprintLeaves salt table room =
+    either (eqb (fingerprintAnswer (length salt) (length room) (parse table) .refusal) 0) (digestOf 256 salt (message table) ++ drop 32 room) room

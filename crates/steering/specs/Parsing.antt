@@ -47,8 +47,3 @@ tableOf (r ∷ rs) = kindOf r ∷ bodyOf r ++ tableOf rs
 abbrev pub AllFit : List Record → Type 0
 AllFit [] = Unit {0}
 AllFit (r ∷ rs) = Fits r × AllFit rs
-
--- all bodies in order
-abbrev pub bodies : List Record → List ℕ
-bodies [] = []
-bodies (r ∷ rs) = bodyOf r ++ bodies rs

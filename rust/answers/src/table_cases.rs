@@ -10,6 +10,7 @@ mod refused;
 mod tests;
 
 use crate::file::File;
+use plain::hex;
 use record::{Case, Task};
 use seeded::Generator;
 
@@ -35,6 +36,8 @@ fn cases() -> Vec<Case> {
     cases.extend(refused::cases(&mut generator));
     cases.extend(long::cases(&mut generator));
     cases.extend(random::cases(&mut generator));
+    cases.extend(swapped_radios(&mut generator));
+    cases.extend(block_edges(&mut generator));
     cases
 }
 
@@ -61,6 +64,44 @@ fn truncations(generator: &mut Generator) -> Vec<Case> {
         for task in [Task::Count, Task::Fingerprint] {
             cases.push(Case::new(generator, task, &table[..length]));
         }
+    }
+    cases
+}
+
+/// Fingerprints of tables in pairs, each under one salt: the same levels, with
+/// the radios swapped.
+fn swapped_radios(generator: &mut Generator) -> Vec<Case> {
+    let mut cases = Vec::new();
+    for (table, swapped) in [
+        ("02 003c", "03 003c"),
+        ("02 003c 03 0041", "03 003c 02 0041"),
+        (
+            "01 a20000000007 02 003c 03 0041",
+            "01 a20000000007 03 003c 02 0041",
+        ),
+    ] {
+        let case = Case::new(generator, Task::Fingerprint, &hex::decode(table));
+        let other = Case {
+            table: hex::decode(swapped),
+            ..case.clone()
+        };
+        cases.extend([case, other]);
+    }
+    cases
+}
+
+/// Lengths about those at which a table, alone or with its padding, fills one
+/// block of 192 bytes, two, or as many as a table can.
+const EDGES: [usize; 16] = [
+    172, 173, 174, 191, 192, 193, 365, 366, 383, 384, 385, 4013, 4014, 4031, 4032, 4033,
+];
+
+/// Fingerprints of tables of these lengths.
+fn block_edges(generator: &mut Generator) -> Vec<Case> {
+    let mut cases = Vec::new();
+    for length in EDGES {
+        let table = build::of_length(generator, length);
+        cases.push(Case::new(generator, Task::Fingerprint, &table));
     }
     cases
 }

@@ -68,8 +68,8 @@ records 3
         let stdin = bytes("crates/fingerprint_table/stdin");
         assert_eq!(stdin, [&salt[..], &TABLE].concat());
         let salt = stdin[..16].try_into().unwrap();
-        let bodies = hex::decode("a20000000007 003c 0041");
-        let line = hex::encode(&digest::digest(256, &salt, &bodies)) + "\n";
+        let message = hex::decode("01 a20000000007 02 003c 03 0041");
+        let line = hex::encode(&digest::digest(256, &salt, &message)) + "\n";
         assert_eq!(bytes("crates/fingerprint_table/stdout"), line.as_bytes());
     }
 }

@@ -170,8 +170,8 @@ pub fn compress(
 }
 
 /// Puts the fingerprint of a steering table, 32 bytes, at the front of `out`;
-/// bytes behind it stay. It is the 256-bit digest of all bodies joined in order.
-/// Refuses by 2, 5, 8, 9 or 10.
+/// bytes behind it stay. It is the 256-bit digest of the whole table, kind bytes
+/// included. Refuses by 2, 5, 8, 9 or 10.
 ///
 /// A node address, then the join floors at 2.4 and at 5 GHz:
 ///
@@ -179,13 +179,12 @@ pub fn compress(
 /// use bahmorist::{Refusal, RefusedTable};
 ///
 /// let table = [1, 0xa2, 0, 0, 0, 0, 7, 2, 0, 0x3c, 3, 0, 0x41];
-/// let bodies = [0xa2, 0, 0, 0, 0, 7, 0, 0x3c, 0, 0x41];
 /// let salt = [9; 16];
 ///
 /// let mut fingerprint = [0; 32];
 /// bahmorist::fingerprint(&salt, &table, &mut fingerprint)?;
 /// let mut digest = [0; 32];
-/// bahmorist::digest(256, &salt, &bodies, &mut digest).unwrap();
+/// bahmorist::digest(256, &salt, &table, &mut digest).unwrap();
 /// assert_eq!(fingerprint, digest);
 ///
 /// // Without its last byte, the record at place 10 is cut short.

@@ -85,9 +85,9 @@ pub fn compress(chaining: &mut [u8], block: &[u8], counter: u64, salt: &[u8]) ->
     refusal::NONE
 }
 
-/// The fingerprint of a steering table: the 256-bit digest of all bodies joined
-/// in order, into the first 32 bytes of `out`. Answers with a number and a
-/// place, which is 0 except with 9 and 10. Refusals 2, 5, 8, 9, 10.
+/// The fingerprint of a steering table: the 256-bit digest of the whole table,
+/// kind bytes included, into the first 32 bytes of `out`. Answers with a number
+/// and a place, which is 0 except with 9 and 10. Refusals 2, 5, 8, 9, 10.
 pub fn fingerprint(salt: &[u8], table: &[u8], out: &mut [u8]) -> (u8, u64) {
     if salt.len() != 16 {
         return (refusal::SALT, 0);
@@ -95,11 +95,10 @@ pub fn fingerprint(salt: &[u8], table: &[u8], out: &mut [u8]) -> (u8, u64) {
     if out.len() < FINGERPRINT {
         return (refusal::ROOM, 0);
     }
-    let bodies = match table::read(table) {
-        Ok(records) => table::bodies(&records),
-        Err(refused) => return refused,
-    };
-    (digest(256, salt, &bodies, out), 0)
+    match table::read(table) {
+        Ok(_) => (digest(256, salt, table, out), 0),
+        Err(refused) => refused,
+    }
 }
 
 fn word(salt: &[u8]) -> Word {

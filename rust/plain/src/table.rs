@@ -61,15 +61,6 @@ pub fn read(table: &[u8]) -> Result<Vec<Record<'_>>, Refused> {
     Ok(records)
 }
 
-/// All bodies joined in order: what a fingerprint digests.
-pub fn bodies(records: &[Record]) -> Vec<u8> {
-    records
-        .iter()
-        .flat_map(|record| record.body)
-        .copied()
-        .collect()
-}
-
 /// What the lister prints for a table: place, kind and body of each record on
 /// its line, then the count; or the refusal alone.
 pub fn list(input: &[u8]) -> String {

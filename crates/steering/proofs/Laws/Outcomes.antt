@@ -131,7 +131,7 @@ module _ (t : List ℕ) (b : AreBytes t) (short : length t ≤ 4096) where
 
 -- ---- whole tables
 
-too-long-8 : (t : List ℕ) → 4096 < length t → parse t ≡ refused 8 0
+pub too-long-8 : (t : List ℕ) → 4096 < length t → parse t ≡ refused 8 0
 unfolding parseFrom
 too-long-8 t h = ap (λ (x : Reading). goOn x (parseFrom (length t) t)) (sym (too-long t 0 (omega arith) h))
 

@@ -3,7 +3,7 @@ use mathlib.Core.Path.{_≡_, refl, sym, subst, _∙_}
 use mathlib.Core.Bool.{Bool, true, false}
 use mathlib.Core.Logic.{_⊎_, inl, inr, ⊎-elim}
 use mathlib.Core.List.{List}
-use Prim.Native.Nat.{ℕ, _+_, _-_, _^_, _<_, _≤_}
+use Prim.Native.Nat.{ℕ, _+_, _-_, _<_, _≤_}
 use native.Mathlib.Omega.{arith}
 use borrow.Author.Tests.{eq-eqb, eqb-false, eqb-true, le-ltb, lt-ltb, ltb-false, ltb-true, ne-eqb}
 use lib.Dec.{eqb, ltb}
@@ -117,20 +117,6 @@ module _ (t : List ℕ) (place : ℕ) where
   pub found : (r : Record) (next : ℕ) → Found r next ≡ readAt t place → Here t place r next
   found r next = says (Found r next)
 
--- ---- the same of what the code has: what it read at a place
-
-module _ (t : List ℕ) (at : ℕ) (x : Reading) (r : Record) (next : ℕ) (f : x ≡ Found r next) (e : x ≡ readAt t at) where
-  step : (at + 1 ≤ next) × (next ≤ length t) × (length t ≤ 4096)
-  step = let H = found t at r next (sym f ∙ e) in omega arith
-
-  pub start-fits : at + 1 < 2 ^ 64
-  start-fits = let S = step in omega arith
-
-  pub start-before : at + 1 ≤ next
-  start-before = let S = step in omega arith
-
-  pub next-within : next ≤ length t
-  next-within = let S = step in omega arith
-
-  pub less-left : length t - next < length t - at
-  less-left = let S = step in omega arith
+-- behind a record that the code read, less of the table is left
+pub less-left : (t : List ℕ) (at : ℕ) (x : Reading) (r : Record) (next : ℕ) → x ≡ Found r next → x ≡ readAt t at → length t - next < length t - at
+less-left t at x r next f e = let H = found t at r next (sym f ∙ e) in omega arith

@@ -71,7 +71,7 @@ fn lines_of_counting() {
 #[test]
 fn lines_of_fingerprints() {
     let case = plain_case(Task::Fingerprint, 9, "02 003c 04 00000001");
-    let digest = digest::digest(256, &case.salt, &hex::decode("003c 00000001"));
+    let digest = digest::digest(256, &case.salt, &case.table);
     let room = hex::encode(&digest) + "a5a5a5a5a5a5a5a5";
     assert_eq!(case.line(), format!("0 0 {room}\n"));
     let untouched = "a5".repeat(40);
@@ -106,6 +106,27 @@ fn fingerprints_write_32_bytes_or_none() {
         };
         assert_eq!(number, expected);
     }
+}
+
+#[test]
+fn swapped_radios_have_fingerprints_of_their_own() {
+    for pair in swapped_radios(&mut Generator::new(3)).chunks(2) {
+        let bodies = |case: &Case| -> Vec<Vec<u8>> {
+            let records = table::read(&case.table).unwrap();
+            records.iter().map(|record| record.body.to_vec()).collect()
+        };
+        assert_eq!(bodies(&pair[0]), bodies(&pair[1]));
+        assert_eq!(pair[0].salt, pair[1].salt);
+        assert_ne!(pair[0].line(), pair[1].line());
+    }
+}
+
+#[test]
+fn tables_about_the_end_of_a_block_are_fingerprinted() {
+    let cases = block_edges(&mut Generator::new(3));
+    let lengths: Vec<usize> = cases.iter().map(|case| case.table.len()).collect();
+    assert_eq!(lengths, EDGES);
+    assert!(cases.iter().all(|case| case.line().starts_with("0 0 ")));
 }
 
 #[test]

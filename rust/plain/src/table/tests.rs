@@ -84,13 +84,20 @@ fn the_longest_table() {
 }
 
 #[test]
-fn fingerprint_program_prints_the_digest_of_the_bodies() {
+fn fingerprint_program_prints_the_digest_of_the_whole_table() {
     let salt: [u8; 16] = std::array::from_fn(|i| i as u8);
     let input = [&salt[..], &hex::decode(EXAMPLE)].concat();
-    let expected = hex::encode(&digest(256, &salt, &hex::decode("a20000000007 003c 0041")));
+    let expected = hex::encode(&digest(256, &salt, &input[16..]));
     assert_eq!(fingerprint_output(&input), expected + "\n");
     let of_nothing = hex::encode(&digest(256, &salt, b"")) + "\n";
     assert_eq!(fingerprint_output(&salt), of_nothing);
+}
+
+#[test]
+fn swapped_radios_change_the_fingerprint() {
+    let print = |table: &str| fingerprint_output(&[&[0; 16][..], &hex::decode(table)].concat());
+    assert_ne!(print("02 003c"), print("03 003c"));
+    assert_ne!(print("02 003c 03 0041"), print("03 003c 02 0041"));
 }
 
 #[test]

@@ -21,8 +21,8 @@
 #include <stddef.h>
 #include <stdint.h>
 
-#define BAHMORIST_VERSION "0.1.0"
-#define BAHMORIST_VERSION_NUMBER 100 /* 10,000 times the first part, 100 times the second and the third, added up */
+#define BAHMORIST_VERSION "0.2.0"
+#define BAHMORIST_VERSION_NUMBER 200 /* 10,000 times the first part, 100 times the second and the third, added up */
 
 #define BAHMORIST_SALT_BYTES 16
 #define BAHMORIST_SQUARE_BYTES 256

@@ -21,8 +21,8 @@
 #include <stddef.h>
 #include <stdint.h>
 
-#define BAHMORIST_VERSION "0.2.0"
-#define BAHMORIST_VERSION_NUMBER 200 /* 10,000 times the first part, 100 times the second and the third, added up */
+#define BAHMORIST_VERSION "0.3.0"
+#define BAHMORIST_VERSION_NUMBER 300 /* 10,000 times the first part, 100 times the second and the third, added up */
 
 #define BAHMORIST_SALT_BYTES 16
 #define BAHMORIST_SQUARE_BYTES 256
@@ -30,7 +30,7 @@
 #define BAHMORIST_MOST_DIGEST_BYTES 64
 #define BAHMORIST_MOST_TABLE_BYTES 4096
 
-/* Why a call was refused. No function here takes a session, so that 3, which is for those that do, is left out. */
+/* Why a call was refused. No function here takes a session, so that 3, which is for those that do, is left out. 11 is unused and stays so. */
 enum bahmorist_refusal {
     BAHMORIST_DONE = 0,
     BAHMORIST_REFUSED_DIGEST_LENGTH = 1, /* the digest length is not a multiple of 8 from 128 to 512 */
@@ -42,8 +42,7 @@ enum bahmorist_refusal {
     BAHMORIST_REFUSED_COUNTER = 7,       /* the starting counter is above 2^64 - 161 */
     BAHMORIST_REFUSED_TABLE = 8,         /* the table is over 4,096 bytes */
     BAHMORIST_REFUSED_KIND = 9,          /* unknown kind byte in the table */
-    BAHMORIST_REFUSED_CUT_SHORT = 10,    /* record of the table cut short */
-    BAHMORIST_REFUSED_DIGEST_LAYER = 11  /* the digest layer refused what the table layer had passed; no input leads there */
+    BAHMORIST_REFUSED_CUT_SHORT = 10     /* record of the table cut short */
 };
 
 /* A record of a steering table is one of these kind bytes and a body of so many bytes, its numbers with the most significant byte first. */

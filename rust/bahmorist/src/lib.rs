@@ -211,10 +211,10 @@ pub fn fingerprint(salt: &[u8], table: &[u8], out: &mut [u8]) -> Result<(), Refu
     .map_err(|refusal| RefusedTable { refusal, place })
 }
 
-/// What a number says: 0 is done, and the library gives none above 11.
+/// What a number says: 0 is done, and the library gives none above 10.
 fn answer(number: u8) -> Result<(), Refusal> {
     match number {
         0 => Ok(()),
-        number => Err(Refusal::from_number(number).expect("a number from 0 to 11")),
+        number => Err(Refusal::from_number(number).expect("a number from 0 to 10")),
     }
 }

@@ -38,13 +38,10 @@ pub enum Refusal {
     Kind = 9,
     /// A record cut short by the table's end.
     CutShort = 10,
-    /// The digest layer refused what the table layer had passed. No input leads
-    /// there.
-    DigestLayer = 11,
 }
 
 /// All of them, in the order of their numbers.
-const ALL: [Refusal; 11] = [
+const ALL: [Refusal; 10] = [
     Refusal::DigestLength,
     Refusal::Salt,
     Refusal::Session,
@@ -55,16 +52,16 @@ const ALL: [Refusal; 11] = [
     Refusal::Table,
     Refusal::Kind,
     Refusal::CutShort,
-    Refusal::DigestLayer,
 ];
 
 impl Refusal {
-    /// The number, from 1 to 11.
+    /// The number, from 1 to 10.
     pub fn number(self) -> u8 {
         self as u8
     }
 
-    /// The refusal of a number; none for 0, which is no refusal, and above 11.
+    /// The refusal of a number; none for 0, which is no refusal, for 11, which is
+    /// unused and stays so, and above.
     pub fn from_number(number: u8) -> Option<Refusal> {
         ALL.into_iter().find(|refusal| refusal.number() == number)
     }
@@ -83,7 +80,6 @@ impl Display for Refusal {
             Refusal::Table => "the table is over 4096 bytes",
             Refusal::Kind => "unknown kind byte",
             Refusal::CutShort => "record cut short",
-            Refusal::DigestLayer => "the digest layer refused what the table layer had passed",
         })
     }
 }
@@ -155,11 +151,11 @@ mod tests {
 
     #[test]
     fn numbers_go_there_and_back() {
-        for number in 1..=11 {
+        for number in 1..=10 {
             let refusal = Refusal::from_number(number).unwrap();
             assert_eq!(refusal.number(), number);
         }
-        for number in [0, 12, 255] {
+        for number in [0, 11, 12, 255] {
             assert_eq!(Refusal::from_number(number), None);
         }
     }

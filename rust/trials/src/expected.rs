@@ -2,9 +2,9 @@
 //! each number with its condition, the lowest that applies, and between 9 and 10
 //! that of the record nearer the front.
 //!
-//! Three numbers never come up here. 3 is about sessions and 11 about layers at
-//! odds, and neither has a way in through the C face. 4 would need a message
-//! that no memory holds. The program `session_cases` is run on 3 and 4.
+//! Two numbers never come up here. 3 is about sessions, which have no way in
+//! through the C face, and 4 would need a message that no memory holds. The
+//! program `session_cases` is run on both.
 
 use crate::case::{Case, Routine};
 

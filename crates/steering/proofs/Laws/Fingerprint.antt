@@ -3,7 +3,7 @@ use mathlib.Core.Path.{_≡_, refl, sym, ap, _∙_}
 use mathlib.Core.Bool.{Bool, true, false}
 use mathlib.Core.Logic.{_↔_}
 use mathlib.Core.List.{List, _++_}
-use Prim.Native.Nat.{ℕ, _<_, _≤_}
+use Prim.Native.Nat.{ℕ, suc, _<_, _≤_}
 use native.Mathlib.Omega.{arith}
 use borrow.Author.Tests.{eq-eqb, eqb-false, eqb-true, le-ltb, lt-ltb, ltb-false, ltb-true, ne-eqb}
 use lib.Dec.{eqb, ltb}
@@ -13,7 +13,7 @@ use Rattle.echo.specs.Session.{digestLeaves, digestRefusal}
 use Rattle.echo.proofs.Laws.Pieces.{admitted-256}
 use Rattle.echo.proofs.Theorems.{at-once-is-the-digest}
 use Rattle.steering.specs.Fingerprint.{fingerprintAnswer, fingerprintLeaves, message, placeOf, refusalOf}
-use Rattle.steering.specs.Numbers.{AreBytes}
+use Rattle.steering.specs.Numbers.{AreBytes, either}
 use Rattle.steering.specs.Parsing.{Parsed, accepted, countOf, parse, refused, tableOf}
 use Rattle.steering.specs.declared.counting.Counted.{Counted}
 use Rattle.steering.specs.declared.fingerprinting.Fingerprinted.{Fingerprinted}
@@ -31,6 +31,51 @@ same-message-exactly t u rs qs b c p q = (there, back)
 
     back : rs ≡ qs → message t ≡ message u
     back e = accepted-exactly t b rs .0 p .0 ∙ ap tableOf e ∙ sym (accepted-exactly u c qs .0 q .0)
+
+-- ---- what is handed to the digest layer
+
+-- of two answers, one of which refuses by k + 1, the other was given where the number is 0
+passes : (k : ℕ) (x : Bool) (a b : Fingerprinted) → b .refusal ≡ suc k → either x a b .refusal ≡ 0 → (x ≡ true) × (a .refusal ≡ 0)
+passes k true a b n z = (refl, z)
+passes k false a b n z = absurd (omega (arith, n, z))
+
+stays : (k : ℕ) (x : Bool) (a b : Fingerprinted) → a .refusal ≡ suc k → either x a b .refusal ≡ 0 → (x ≡ false) × (b .refusal ≡ 0)
+stays k true a b n z = absurd (omega (arith, n, z))
+stays k false a b n z = (refl, z)
+
+-- what holds where nothing is refused
+record Clean (salt room : ℕ) (q : Parsed) : Type 0 where
+  salt-fits : salt ≡ 16
+  room-fits : 32 ≤ room
+  is-accepted : refusalOf q ≡ 0
+
+clean : (salt room : ℕ) (q : Parsed) → fingerprintAnswer salt room q .refusal ≡ 0 → Clean salt room q
+unfolding fingerprintAnswer
+clean salt room q z =
+    let p = passes 1 (eqb salt 16) _ _ refl z in
+    let r = stays 4 (ltb room 32) _ _ refl (p .1) in
+    record {
+      salt-fits = eqb-true salt 16 (p .0);
+      room-fits = ltb-false room 32 (r .0);
+      is-accepted = r .1;
+    }
+
+not-too-long : (t : List ℕ) → refusalOf (parse t) ≡ 0 → length t ≤ 4096
+not-too-long t z = by (ltb 4096 (length t)) refl
+  where
+    by : (x : Bool) → ltb 4096 (length t) ≡ x → length t ≤ 4096
+    by true p = let w : _≡_ {A = ℕ} 8 0 = sym (ap refusalOf (too-long-8 t (ltb-true 4096 (length t) p))) ∙ z in absurd (omega arith)
+    by false p = ltb-false 4096 (length t) p
+
+-- the digest layer accepts what it is handed, and leaves what a fingerprint leaves
+pub takes : (salt t room : List ℕ) → fingerprintAnswer (length salt) (length room) (parse t) .refusal ≡ 0
+    → (digestRefusal 256 (length salt) (length (message t)) (length room) ≡ 0)
+    × (digestLeaves 256 salt (message t) room ≡ fingerprintLeaves salt t room)
+unfolding fingerprintLeaves
+takes salt t room z =
+    let C = clean (length salt) (length room) (parse t) z in
+    rw (eq-eqb _ 0 z)
+    (at-once-is-the-digest 256 salt t room admitted-256 (C .salt-fits) (omega (arith, not-too-long t (C .is-accepted))) (C .room-fits))
 
 -- ---- the answers
 
@@ -52,59 +97,15 @@ module _ (salt room : ℕ) (q : Parsed) where
     unfolding fingerprintAnswer
     print-table h k e = rw (eq-eqb salt 16 l, le-ltb room 32 h, e, count-fields q .0, count-fields q .1)
 
--- what holds where nothing is refused
-record Clean (salt room : ℕ) (q : Parsed) : Type 0 where
-  salt-fits : salt ≡ 16
-  room-fits : 32 ≤ room
-  is-accepted : refusalOf q ≡ 0
+-- ---- what a fingerprint leaves, by the answer a that the code has
 
-clean : (salt room : ℕ) (q : Parsed) → fingerprintAnswer salt room q .refusal ≡ 0 → Clean salt room q
-clean salt room q z = by (eqb salt 16) (ltb room 32) refl refl
-  where
-    by : (x y : Bool) → eqb salt 16 ≡ x → ltb room 32 ≡ y → Clean salt room q
-    by false y p r =
-        let w : _≡_ {A = ℕ} 2 0 = ap (λ (f : Fingerprinted). f .refusal) (print-2 salt room q (eqb-false salt 16 p)) ∙ z in
-        absurd (omega arith)
-    by true true p r =
-        let w : _≡_ {A = ℕ} 5 0 = ap (λ (f : Fingerprinted). f .refusal) (print-5 salt room q (eqb-true salt 16 p) (ltb-true room 32 r)) ∙ z in
-        absurd (omega arith)
-    by true false p r =
-        let l = eqb-true salt 16 p in
-        let h = ltb-false room 32 r in
-        record {
-          salt-fits = l;
-          room-fits = h;
-          is-accepted = sym (count-fields q .0) ∙ ap (λ (f : Fingerprinted). f .refusal) (print-table salt room q l h (countOf q) refl) ∙ z;
-        }
-
--- ---- what a fingerprint leaves
-
-not-too-long : (t : List ℕ) → refusalOf (parse t) ≡ 0 → length t ≤ 4096
-not-too-long t z = by (ltb 4096 (length t)) refl
-  where
-    by : (x : Bool) → ltb 4096 (length t) ≡ x → length t ≤ 4096
-    by true p = let w : _≡_ {A = ℕ} 8 0 = sym (ap refusalOf (too-long-8 t (ltb-true 4096 (length t) p))) ∙ z in absurd (omega arith)
-    by false p = ltb-false 4096 (length t) p
-
--- by the answer a that the code has
 module _ (salt t room : List ℕ) (a : Fingerprinted) (e : a ≡ fingerprintAnswer (length salt) (length room) (parse t)) where
   pub left-alone : (a .refusal ≡ 0 → ⊥) → room ≡ fingerprintLeaves salt t room
   unfolding fingerprintLeaves
   left-alone n = rw (← e, ne-eqb (a .refusal) 0 n)
 
-  module _ (z : a .refusal ≡ 0) where
-    -- the digest layer takes the table, and leaves its digest
-    takes : (digestRefusal 256 (length salt) (length t) (length room) ≡ 0) × (digestLeaves 256 salt t room ≡ digestOf 256 salt (message t) ++ drop 32 room)
-    takes =
-        let C = clean (length salt) (length room) (parse t) (sym (ap (λ (f : Fingerprinted). f .refusal) e) ∙ z) in
-        at-once-is-the-digest 256 salt t room admitted-256 (C .salt-fits) (omega (arith, not-too-long t (C .is-accepted))) (C .room-fits)
-
-    pub not-refused : (r : ℕ) → r ≡ digestRefusal 256 (length salt) (length t) (length room) → (r ≡ 0 → ⊥) → ⊥
-    not-refused r d n = n (d ∙ takes .0)
-
-    pub left-digest : (u : List ℕ) → u ≡ digestLeaves 256 salt t room → u ≡ fingerprintLeaves salt t room
-    unfolding fingerprintLeaves
-    left-digest u d = rw (← e, eq-eqb (a .refusal) 0 z) (d ∙ takes .1)
+  pub left-digest : a .refusal ≡ 0 → (u : List ℕ) → u ≡ digestLeaves 256 salt t room → u ≡ fingerprintLeaves salt t room
+  left-digest z u d = d ∙ takes salt t room (sym (ap (λ (f : Fingerprinted). f .refusal) e) ∙ z) .1
 
 pub digested : (salt t room : List ℕ) (rs : List Record) → length salt ≡ 16 → 32 ≤ length room → parse t ≡ accepted rs
     → (fingerprintAnswer (length salt) (length room) (parse t) ≡ record { refusal = 0; place = 0 })

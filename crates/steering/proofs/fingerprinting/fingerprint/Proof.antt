@@ -1,6 +1,6 @@
--- `fingerprint` meets its contract, a case for each return. No input leads to the one that answers 11. Assumes nothing.
+-- `fingerprint` meets its contract, a case for each return. Assumes nothing.
 use borrow.Author.Needs.{needs}
-use Rattle.steering.proofs.Laws.Fingerprint.{left-alone, left-digest, not-refused}
+use Rattle.steering.proofs.Laws.Fingerprint.{left-alone, left-digest}
 use Rattle.steering.proofs.fingerprinting.fingerprint.Statement.{statement}
 use Rattle.steering.proofs.fingerprinting.fingerprint.Tie as tie
 
@@ -17,13 +17,7 @@ same-length : tie.Need-same-length
 same-length c = search needs
 
 returns-2 : tie.Need-returns-2
-returns-2 c = absurd (search not-refused)
-
-same-length-2 : tie.Need-same-length-2
-same-length-2 c = search needs
-
-returns-3 : tie.Need-returns-3
-returns-3 c = (search, search left-digest)
+returns-2 c = (search, search left-digest)
 
 pub fingerprint-spec : {M : Type 1} → statement M
-fingerprint-spec = tie.close (tie.spec refusal-of-requires returns digest-requires same-length returns-2 same-length-2 returns-3)
+fingerprint-spec = tie.close (tie.spec refusal-of-requires returns digest-requires same-length returns-2)

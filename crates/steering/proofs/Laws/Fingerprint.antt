@@ -5,7 +5,7 @@ use mathlib.Core.Logic.{_↔_}
 use mathlib.Core.List.{List, _++_}
 use Prim.Native.Nat.{ℕ, suc, _<_, _≤_}
 use native.Mathlib.Omega.{arith}
-use borrow.Author.Tests.{eq-eqb, eqb-false, eqb-true, le-ltb, lt-ltb, ltb-false, ltb-true, ne-eqb}
+use borrow.Author.Tests.{eq-eqb, eqb-true, le-ltb, lt-ltb, ltb-false, ltb-true, ne-eqb}
 use lib.Dec.{eqb, ltb}
 use lib.ListN.{drop, length}
 use Rattle.echo.specs.Digest.{digestOf}
@@ -43,23 +43,6 @@ stays : (k : ℕ) (x : Bool) (a b : Fingerprinted) → a .refusal ≡ suc k → 
 stays k true a b n z = absurd (omega (arith, n, z))
 stays k false a b n z = (refl, z)
 
--- what holds where nothing is refused
-record Clean (salt room : ℕ) (q : Parsed) : Type 0 where
-  salt-fits : salt ≡ 16
-  room-fits : 32 ≤ room
-  is-accepted : refusalOf q ≡ 0
-
-clean : (salt room : ℕ) (q : Parsed) → fingerprintAnswer salt room q .refusal ≡ 0 → Clean salt room q
-unfolding fingerprintAnswer
-clean salt room q z =
-    let p = passes 1 (eqb salt 16) _ _ refl z in
-    let r = stays 4 (ltb room 32) _ _ refl (p .1) in
-    record {
-      salt-fits = eqb-true salt 16 (p .0);
-      room-fits = ltb-false room 32 (r .0);
-      is-accepted = r .1;
-    }
-
 not-too-long : (t : List ℕ) → refusalOf (parse t) ≡ 0 → length t ≤ 4096
 not-too-long t z = by (ltb 4096 (length t)) refl
   where
@@ -71,11 +54,13 @@ not-too-long t z = by (ltb 4096 (length t)) refl
 pub takes : (salt t room : List ℕ) → fingerprintAnswer (length salt) (length room) (parse t) .refusal ≡ 0
     → (digestRefusal 256 (length salt) (length (message t)) (length room) ≡ 0)
     × (digestLeaves 256 salt (message t) room ≡ fingerprintLeaves salt t room)
-unfolding fingerprintLeaves
+unfolding fingerprintAnswer fingerprintLeaves
 takes salt t room z =
-    let C = clean (length salt) (length room) (parse t) z in
-    rw (eq-eqb _ 0 z)
-    (at-once-is-the-digest 256 salt t room admitted-256 (C .salt-fits) (omega (arith, not-too-long t (C .is-accepted))) (C .room-fits))
+    let p = passes 1 (eqb (length salt) 16) _ _ refl z in
+    let r = stays 4 (ltb (length room) 32) _ _ refl (p .1) in
+    let salt-fits = eqb-true (length salt) 16 (p .0) in
+    let room-fits = ltb-false (length room) 32 (r .0) in
+    rw (p .0, r .0, eq-eqb _ 0 (r .1)) (at-once-is-the-digest 256 salt t room admitted-256 salt-fits (omega (arith, not-too-long t (r .1))) room-fits)
 
 -- ---- the answers
 

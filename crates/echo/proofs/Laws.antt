@@ -5,6 +5,7 @@ pub mod Refusals
 pub mod Square
 pub mod Undone
 pub mod Words
+pub mod Rows
 pub mod Columns
 pub mod Compression
 pub mod Marked

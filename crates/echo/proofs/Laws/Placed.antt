@@ -1,13 +1,13 @@
 -- Bytes put into a lent slice: what a loop that stores them does turn by turn, and what its result is. Assumes nothing.
 use mathlib.Core.Path.{_≡_, refl, sym, ap, _∙_, subst}
 use mathlib.Core.Logic.{⊎-elim}
-use mathlib.Core.List.{List, _++_, append-nil}
+use mathlib.Core.List.{List, _++_}
 use Prim.Native.Nat.{ℕ, _+_, _-_, _<_, _≤_}
 use native.Mathlib.Nat.{not-suc-le-zero, zero-add}
 use native.Mathlib.Omega.{arith}
 use borrow.Author.Count.{below-more}
 use lib.ListN.{drop, getD, length, length-append, length-drop, length-replicate, length-set, replicate, set, take}
-use lib.Seq.{drop-length, getD-drop, getD-set-other, getD-set-same, getD-take, length-take-le}
+use lib.Seq.{getD-drop, getD-set-other, getD-set-same, getD-take, length-take-le}
 use Rattle.aes_round.proofs.Laws.Bytes.{lt-or-le, same-list}
 use Rattle.aes_round.proofs.Laws.Fill.{Filled}
 use Rattle.echo.specs.Placed.{Placed}
@@ -46,14 +46,6 @@ placed-front room w r n lw l P =
     rest k g =
         P .behind k (omega arith) ∙ ap (λ (i : ℕ). getD room i 0) (sym (on k g)) ∙ sym (getD-drop n room (k - n) 0)
         ∙ sym (ap (λ (i : ℕ). getD (w ++ drop n room) i 0) (sym (on k g)) ∙ second-part n w (drop n room) lw (k - n))
-
--- a list placed over the whole of another
-pub placed-whole : (l w r : List ℕ) (n : ℕ) → Placed l 0 w (length w) r → length w ≡ n → length l ≡ n → r ≡ w
-placed-whole l w r n P hw hl =
-    placed-front l w r (length w) refl (omega arith) P
-    ∙ ap (λ (k : ℕ). w ++ drop k l) (hw ∙ sym hl)
-    ∙ ap (λ (x : List ℕ). w ++ x) (drop-length l)
-    ∙ append-nil w
 
 -- a loop that fills a list from the front, n bytes at a turn
 pub fill-part : (N : ℕ) (f : ℕ → ℕ) (l : List ℕ) (i : ℕ) (r w r′ : List ℕ) (n : ℕ) → Filled N f l i r → Placed r i w n r′ → i + n ≤ N

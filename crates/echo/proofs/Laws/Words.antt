@@ -5,13 +5,13 @@ use Prim.Native.Nat.{ℕ, _+_, _*_, _/_, _%_, _<_, _≤_}
 use native.Mathlib.Nat.{zero-add}
 use native.Mathlib.Omega.{arith}
 use lib.ListN.{getD, length}
-use Rattle.aes_round.specs.Array.{array, entry}
+use Rattle.aes_round.specs.Array.{array}
 use Rattle.aes_round.specs.Bytes.{tab}
 use Rattle.aes_round.specs.Rounds.{aesRound, aesRoundBack}
-use Rattle.aes_round.proofs.Laws.Array.{entry-is, is-array, tab-array}
-use Rattle.aes_round.proofs.Laws.Bytes.{getD-tab, is-tab, tab-ext}
+use Rattle.aes_round.proofs.Laws.Array.{entry-is, tab-array}
+use Rattle.aes_round.proofs.Laws.Bytes.{is-tab, tab-ext}
 use Rattle.aes_round.proofs.Laws.Fill.{Filled, fill-all, fill-none}
-use Rattle.aes_round.proofs.Laws.Rounds.{entry-shift, entry-shift-back, length-shift, length-shift-back}
+use Rattle.aes_round.proofs.Laws.Rounds.{entry-shift, entry-shift-back}
 use Rattle.echo.specs.Placed.{Placed}
 use Rattle.echo.specs.Square.{bigShiftRows, bigShiftRowsBack, bigSubWords, bigSubWordsBack, word}
 use Rattle.echo.proofs.Laws.Placed.{fill-part}
@@ -110,41 +110,12 @@ module _ (key : ℕ → List ℕ) (salt l : List ℕ) (j : ℕ) (s : List ℕ) w
   unfolding bigSubWordsBack
   through-back = all-through back key salt l j s
 
--- ---- BIG.ShiftRows and its way back: word j comes out of l from the place m j (mod 16)
+-- ---- BIG.ShiftRows and its way back: the word that comes to place i
 
-module _ (m : ℕ) (l : List ℕ) where
-  -- the first j words are moved
-  pub Moved : ℕ → List ℕ → Type 0
-  Moved = Words (λ i. tab 16 (λ b. getD l (16 * (m * i % 16) + b) 0)) l
-
-  pub none-moved : length l ≡ 256 → Moved 0 l
-  unfolding Moved
-  none-moved = no-words _ l
-
-  pub next-moved : (j : ℕ) (s copy w r : List ℕ) → Placed s (16 * j) w (length w) r → w ≡ tab 16 (λ b. getD copy (16 * (m * j % 16) + b) 0) → copy ≡ l
-      → length w ≡ 16 → j < 16 → Moved j s → Moved (j + 1) r
-  unfolding Moved
-  next-moved j s copy w r P e c lw h M =
-      next-word _ l j s w r M h (subst (λ (n : ℕ). Placed s (16 * j) w n r) lw P)
-      (e ∙ ap (λ (x : List ℕ). tab 16 (λ b. getD x (16 * (m * j % 16) + b) 0)) c)
-
-  -- t has its words from these places
-  all-moved : (t : List ℕ) → length t ≡ 256 → ((i b : ℕ) → i < 16 → b < 16 → entry 16 t i b ≡ entry 16 l (m * i % 16) b)
-      → (j : ℕ) (s : List ℕ) → Moved j s → 16 ≤ j → s ≡ t
-  unfolding Moved
-  all-moved t lt entries j s M h =
-      all-words _ l j s M h
-      ∙ sym (is-array 16 t _ lt (λ i b hi hb. entries i b hi hb ∙ entry-is 16 l (m * i % 16) b ∙ sym (getD-tab 16 _ b hb)))
-
-pub moved-forth : (l : List ℕ) (j : ℕ) (s : List ℕ) → Moved 5 l j s → 16 ≤ j → s ≡ bigShiftRows l
-unfolding bigShiftRows
-moved-forth l = all-moved 5 l _ (length-shift 16 l) (entry-shift 16 l)
-
-pub moved-back : (l : List ℕ) (j : ℕ) (s : List ℕ) → Moved 13 l j s → 16 ≤ j → s ≡ bigShiftRowsBack l
-unfolding bigShiftRowsBack
-moved-back l = all-moved 13 l _ (length-shift-back 16 l) (entry-shift-back 16 l)
-
--- the word that comes to place i
 pub shifted-word : (s : List ℕ) (i : ℕ) → i < 16 → word (bigShiftRows s) i ≡ word s (5 * i % 16)
 unfolding word bigShiftRows
 shifted-word s i h = tab-ext 16 _ _ (λ b hb. entry-shift 16 s i b h hb)
+
+pub shifted-back-word : (s : List ℕ) (i : ℕ) → i < 16 → word (bigShiftRowsBack s) i ≡ word s (13 * i % 16)
+unfolding word bigShiftRowsBack
+shifted-back-word s i h = tab-ext 16 _ _ (λ b hb. entry-shift-back 16 s i b h hb)

@@ -1,63 +1,38 @@
--- `shift_rows` meets its contract: the copy is the square, and the loop rewrites word after word out of it. Assumes nothing.
-use mathlib.Core.Path.{_≡_}
+-- `shift_rows` meets its contract: the loop turns row after row. Assumes nothing.
+use mathlib.Core.Path.{_≡_, refl}
 use Prim.Native.Nat.{_-_, _≤_}
 use lib.ListN.{length}
 use borrow.Author.Needs.{needs}
-use Rattle.echo.proofs.Laws.Placed.{placed-whole}
-use Rattle.echo.proofs.Laws.Words.{Moved, moved-forth, next-moved, none-moved}
+use Rattle.echo.proofs.Laws.Rows.{Rows, first-row, forth, next-row, rows-forth}
 use Rattle.echo.proofs.shift_rows.shift_rows.Statement.{statement}
 use Rattle.echo.proofs.shift_rows.shift_rows.Tie as tie
 
 abbrev Inv-loop : tie.InvT-loop
-Inv-loop s₀ copy j₀ s j = (length s ≡ 256) × (j ≤ 16) × (copy ≡ s₀) × Moved 5 s₀ j s
+Inv-loop s₀ i₀ s i = (length s ≡ 256) × (i ≤ 4) × Rows forth s₀ i s
 
 abbrev μ-loop : tie.MeasureT-loop
-μ-loop s₀ copy j₀ s j = 16 - j
-
-slice-aggregate-copy-in : tie.Need-slice-aggregate-copy-in Inv-loop μ-loop
-slice-aggregate-copy-in c = search needs
-
-copy-in-requires : tie.Need-copy-in-requires Inv-loop μ-loop
-copy-in-requires c κs = search needs
+μ-loop s₀ i₀ s i = 4 - i
 
 loop-holds : tie.Need-loop-holds Inv-loop μ-loop
-loop-holds c = (search needs, search needs, search placed-whole, search none-moved)
+loop-holds c = (search needs, search needs, first-row forth refl _)
 
-slice-aggregate-sixteen : tie.Need-slice-aggregate-sixteen Inv-loop μ-loop
-slice-aggregate-sixteen c = search needs
+turn-row-requires : tie.Need-turn-row-requires Inv-loop μ-loop
+turn-row-requires c κs = search needs
 
-mul-sixteen : tie.Need-mul-sixteen Inv-loop μ-loop
-mul-sixteen c = search needs
-
-mul-sixteen-2 : tie.Need-mul-sixteen-2 Inv-loop μ-loop
-mul-sixteen-2 c = search needs
-
-sixteen-requires : tie.Need-sixteen-requires Inv-loop μ-loop
-sixteen-requires c κs = search needs
-
-mul-copy-in : tie.Need-mul-copy-in Inv-loop μ-loop
-mul-copy-in c = search needs
-
-slice-aggregate-copy-in-2 : tie.Need-slice-aggregate-copy-in-2 Inv-loop μ-loop
-slice-aggregate-copy-in-2 c = search needs
-
-copy-in-requires-2 : tie.Need-copy-in-requires-2 Inv-loop μ-loop
-copy-in-requires-2 c κs = search needs
-
-add-j : tie.Need-add-j Inv-loop μ-loop
-add-j c = search needs
+add-i : tie.Need-add-i Inv-loop μ-loop
+add-i c = search needs
 
 loop-less : tie.Need-loop-less Inv-loop μ-loop
 loop-less c = search needs
 
 loop-again : tie.Need-loop-again Inv-loop μ-loop
-loop-again c = (search needs, search needs, search, search (needs, next-moved))
+loop-again c = (search needs, search needs, search next-row)
 
 same-length : tie.Need-same-length Inv-loop μ-loop
 same-length c = search needs
 
 returns : tie.Need-returns Inv-loop μ-loop
-returns c = search moved-forth
+returns c = search rows-forth
 
 pub shift-rows-spec : {M : Type 1} → statement M
 shift-rows-spec =
@@ -65,17 +40,9 @@ shift-rows-spec =
     (tie.spec
     Inv-loop
     μ-loop
-    slice-aggregate-copy-in
-    copy-in-requires
     loop-holds
-    slice-aggregate-sixteen
-    mul-sixteen
-    mul-sixteen-2
-    sixteen-requires
-    mul-copy-in
-    slice-aggregate-copy-in-2
-    copy-in-requires-2
-    add-j
+    turn-row-requires
+    add-i
     loop-less
     loop-again
     same-length

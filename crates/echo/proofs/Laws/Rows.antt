@@ -1,4 +1,4 @@
--- Words moved along the rows of a square, in place: a word copied, a row turned by one place and by many, and all four rows. Assumes nothing.
+-- Words moved along the rows of a square, in place: a word pulled up, a row turned by one place and by many, and all four rows. Assumes nothing.
 use mathlib.Core.Path.{_≡_, refl, sym, ap, _∙_, subst}
 use mathlib.Core.Logic.{_≢_, ⊎-elim}
 use mathlib.Core.List.{List}

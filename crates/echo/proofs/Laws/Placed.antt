@@ -27,8 +27,8 @@ module _ (l : List ℕ) (at : ℕ) (w : List ℕ) where
     behind = λ k le. getD-set-other r (at + n) k v 0 (λ q. omega arith) ∙ P .behind k (omega arith);
   }
 
-  pub place-all : (n i : ℕ) (r : List ℕ) → Placed l at w i r → n ≡ length w → i ≤ n → n ≤ i → Placed l at w (length w) r
-  place-all n i r P e most least = let all : i ≡ length w = omega arith in subst (λ (m : ℕ). Placed l at w m r) all P
+  pub place-all : (i n m : ℕ) (r : List ℕ) → Placed l at w i r → i ≤ n → n ≤ i → n ≡ m → Placed l at w m r
+  place-all i n m r P most least e = let all : i ≡ m = omega arith in subst (λ (k : ℕ). Placed l at w k r) all P
 
 -- bytes placed at the front of room
 pub placed-front : (room w r : List ℕ) (n : ℕ) → length w ≡ n → n ≤ length room → Placed room 0 w n r → r ≡ w ++ drop n room

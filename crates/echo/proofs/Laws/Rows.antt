@@ -46,9 +46,6 @@ pull-more l r e k P long low h =
     place-more l (16 * e) (word l (e + 4)) k r _ P (omega arith)
     (P .behind (16 * (e + 4) + k) (omega arith) ∙ sym (entry-is 16 l (e + 4) k) ∙ sym (getD-word l (e + 4) k h))
 
-pub pull-all : (l r : List ℕ) (e k : ℕ) → Placed l (16 * e) (word l (e + 4)) k r → k ≤ 16 → 16 ≤ k → Placed l (16 * e) (word l (e + 4)) 16 r
-pull-all l r e k P most least = let all : k ≡ 16 = omega arith in subst (λ (n : ℕ). Placed l (16 * e) (word l (e + 4)) n r) all P
-
 -- ---- the words of a square into which a word was put
 
 put-word : (l w r : List ℕ) (i : ℕ) → Placed l (16 * i) w 16 r → length w ≡ 16 → word r i ≡ w

@@ -5,8 +5,8 @@ use lib.ListN.{length}
 use borrow.Author.Needs.{needs}
 use Rattle.echo.specs.Placed.{Placed}
 use Rattle.echo.specs.Square.{word}
-use Rattle.echo.proofs.Laws.Placed.{place-none}
-use Rattle.echo.proofs.Laws.Rows.{pull-all, pull-more}
+use Rattle.echo.proofs.Laws.Placed.{place-all, place-none}
+use Rattle.echo.proofs.Laws.Rows.{pull-more}
 use Rattle.echo.proofs.shift_rows.pull_word.Statement.{statement}
 use Rattle.echo.proofs.shift_rows.pull_word.Tie as tie
 
@@ -53,7 +53,7 @@ same-length : tie.Need-same-length Inv-loop μ-loop
 same-length c = search needs
 
 returns : tie.Need-returns Inv-loop μ-loop
-returns c = search pull-all
+returns c = search place-all
 
 pub pull-word-spec : {M : Type 1} → statement M
 pull-word-spec =

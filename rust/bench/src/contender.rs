@@ -1,4 +1,4 @@
-//! What is timed: three implementations of a digest.
+//! What is timed: four implementations of a digest.
 
 /// An implementation, which digests into the front of a room of 64 bytes. False
 /// where the machine does not have it.
@@ -6,19 +6,24 @@ pub struct Contender {
     pub digest: fn(u64, &[u8], &mut [u8; 64]) -> bool,
 }
 
-/// Places in [`CONTENDERS`].
+/// Places in [`CONTENDERS`]. The last is the one that a machine may not have.
 pub const LIBRARY: usize = 0;
 pub const PLAIN: usize = 1;
+pub const TABLES: usize = 2;
+pub const INSTRUCTION: usize = 3;
 
 /// The salt of every run.
 const SALT: [u8; 16] = [7; 16];
 
-pub const CONTENDERS: [Contender; 3] = [
+pub const CONTENDERS: [Contender; 4] = [
     Contender {
         digest: |bits, message, out| bahmorist::digest(bits, &SALT, message, out).is_ok(),
     },
     Contender {
         digest: |bits, message, out| put(&plain::digest::digest(bits, &SALT, message), out),
+    },
+    Contender {
+        digest: |bits, message, out| put(&tables::digest(bits, &SALT, message), out),
     },
     Contender {
         digest: |bits, message, out| {

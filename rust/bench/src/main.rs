@@ -1,40 +1,36 @@
-//! Times digests by the proved library, by `plain` and by the processor's AES
-//! instruction, on the same inputs in one run, and measures the stack that a
-//! digest of the library takes. Exits with 1 where the library is slower than it
-//! may be.
+//! Times digests by the proved library, by `plain`, by `tables` and by the
+//! processor's AES instruction, on the same inputs in one run, and measures the
+//! stack that a digest of the library takes. Exits with 1 where the library is
+//! slower than it may be.
 
 mod contender;
+mod judgement;
+mod message;
 mod stack;
 mod timing;
 
-use contender::{block_bytes, Contender, CONTENDERS, ROUNDS};
-use seeded::Generator;
+use contender::{block_bytes, Contender, CONTENDERS, INSTRUCTION, LIBRARY, PLAIN, ROUNDS, TABLES};
+use judgement::Row;
+use message::{Kind, MESSAGES};
 use std::process::ExitCode;
+use timing::Times;
 
 const BITS: [u64; 2] = [256, 512];
-const SIZES: [usize; 3] = [64, 4096, 1 << 20];
-
-/// The library takes at most so many times as long as `plain`, on messages of at
-/// least so many bytes.
-const BOUND: f64 = 1.25;
-const BOUND_FROM: usize = 4096;
 
 fn main() -> ExitCode {
-    let mut slow = Vec::new();
-    println!("ns for each byte of the message, and the ratio to plain:");
+    println!("ns for each byte of the message, and the library's time over that of each other:");
     println!();
-    println!("bits    bytes |    library      |     plain       | AES instruction");
+    println!("bits    bytes kind     |  library    plain   tables AES instruction | to plain to tables to AES");
+    let mut rows = Vec::new();
     for bits in BITS {
-        for size in SIZES {
-            slow.extend(row(bits, size));
+        for (size, kind) in MESSAGES {
+            rows.push(row(bits, size, kind));
         }
     }
     println!();
     for bits in BITS {
-        let [time] = timing::nanoseconds(&[&ROUNDS], bits, &[])[..] else {
-            unreachable!("one time for one contender")
-        };
-        let time = time / block_bytes(bits) as f64;
+        let time = Times::of(&[&ROUNDS], bits, &[]).nanoseconds(0);
+        let time = time.expect("it was timed") / block_bytes(bits) as f64;
         println!("rounds of the library alone, {bits} bits: {time:.2} ns for each byte of a block");
     }
     for bits in BITS {
@@ -43,33 +39,47 @@ fn main() -> ExitCode {
             None => println!("stack of a digest of {bits} bits: not measured on this processor"),
         }
     }
-    if slow.is_empty() {
+    println!("{}", judgement::largest(&rows));
+    let faults: Vec<String> = rows.iter().filter_map(Row::fault).collect();
+    if faults.is_empty() {
         return ExitCode::SUCCESS;
     }
-    for row in slow {
-        eprintln!("{row}");
+    for fault in faults {
+        eprintln!("{fault}");
     }
     eprintln!("nothing is broken by that: every digest was the right one, and only speed is not what it should be");
     ExitCode::FAILURE
 }
 
-/// Prints the times of all that the machine has. Where the library is too slow,
-/// says by how much.
-fn row(bits: u64, size: usize) -> Option<String> {
-    let message = Generator::new(size as u64).vector(size);
+/// Prints the times of all that the machine has.
+fn row(bits: u64, size: usize, kind: Kind) -> Row {
+    let message = message::bytes(size, kind);
     let present: Vec<&Contender> = CONTENDERS
         .iter()
         .filter(|contender| contender.agrees(bits, &message))
         .collect();
-    let times = timing::nanoseconds(&present, bits, &message);
-    let plain = times[contender::PLAIN];
-    let cells: Vec<String> = times
-        .iter()
-        .map(|time| format!("{:8.2} {:6.2} ", time / size as f64, time / plain))
-        .collect();
-    println!("{bits:4} {size:8} | {}", cells.join("| "));
-    let ratio = times[contender::LIBRARY] / plain;
-    (size >= BOUND_FROM && ratio > BOUND).then(|| {
-        format!("{bits} bits, {size} bytes: {ratio:.2} times as long as plain, where at most {BOUND} is meant")
-    })
+    let times = Times::of(&present, bits, &message);
+    let time = |place| cell(times.nanoseconds(place).map(|time| time / size as f64));
+    let ratio = |place| times.ratio(LIBRARY, place);
+    println!(
+        "{bits:4} {size:8} {kind:8} | {:>8} {:>8} {:>8} {:>15} | {:>8} {:>9} {:>6}",
+        time(LIBRARY),
+        time(PLAIN),
+        time(TABLES),
+        time(INSTRUCTION),
+        cell(ratio(PLAIN)),
+        cell(ratio(TABLES)),
+        cell(ratio(INSTRUCTION))
+    );
+    Row {
+        bits,
+        size,
+        kind,
+        to_plain: ratio(PLAIN).expect("plain runs everywhere"),
+        to_tables: ratio(TABLES).expect("tables runs everywhere"),
+    }
+}
+
+fn cell(number: Option<f64>) -> String {
+    number.map_or("none".into(), |number| format!("{number:.2}"))
 }

@@ -8,3 +8,5 @@ pub mod Fill
 pub mod Substitution
 pub mod Mixing
 pub mod Rounds
+pub mod Numbers
+pub mod ByTables

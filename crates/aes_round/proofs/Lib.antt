@@ -1,4 +1,5 @@
 -- What is proved of the definitions in specs/, apart from any function: the crates above cite it.
 pub mod Laws
+pub mod Differences
 pub mod OneAnswer
 pub mod Theorems

@@ -11,6 +11,9 @@ use Rattle.aes_round.proofs.rounds.round.Reads as round
 use Rattle.aes_round.proofs.rounds.round_back.Reads as round_back
 use Rattle.aes_round.proofs.rounds.two_rounds.Reads as two_rounds
 use Rattle.aes_round.proofs.rounds.two_rounds_back.Reads as two_rounds_back
+use Rattle.aes_round.proofs.rows.row_tables.Reads as row_tables
+use Rattle.aes_round.proofs.by_tables.round_by_tables.Reads as round_by_tables
+use Rattle.aes_round.proofs.numbers.mix_numbers.Reads as mix_numbers
 
 pub double-has-one-answer : (κs : _) (a : _) (r r′ : _) (s s′ : _) → double.Post κs a r s → double.Post κs a r′ s′ → r ≡ r′
 double-has-one-answer κs a r r′ s s′ p q = p ∙ sym q
@@ -41,3 +44,12 @@ two-rounds-has-one-answer κs a r r′ s s′ p q = p ∙ sym q
 
 pub two-rounds-back-has-one-answer : (κs : _) (a : _) (r r′ : _) (s s′ : _) → two_rounds_back.Post κs a r s → two_rounds_back.Post κs a r′ s′ → r ≡ r′
 two-rounds-back-has-one-answer κs a r r′ s s′ p q = p ∙ sym q
+
+pub row-tables-has-one-answer : (κs : _) (a : _) (r r′ : _) (s s′ : _) → row_tables.Post κs a r s → row_tables.Post κs a r′ s′ → r ≡ r′
+row-tables-has-one-answer κs a r r′ s s′ p q = p ∙ sym q
+
+pub round-by-tables-has-one-answer : (κs : _) (a : _) (r r′ : _) (s s′ : _) → round_by_tables.Post κs a r s → round_by_tables.Post κs a r′ s′ → r ≡ r′
+round-by-tables-has-one-answer κs a r r′ s s′ p q = p ∙ sym q
+
+pub mix-numbers-has-one-answer : (κs : _) (a : _) (r r′ : _) (s s′ : _) → mix_numbers.Post κs a r s → mix_numbers.Post κs a r′ s′ → r ≡ r′
+mix-numbers-has-one-answer κs a r r′ s s′ p q = p ∙ sym q

@@ -6,4 +6,6 @@ pub mod Array
 pub mod Substitution
 pub mod Mixing
 pub mod Rounds
+pub mod Numbers
+pub mod ByTables
 pub mod Marked

@@ -6,21 +6,32 @@
 // with the field of bytes, the substitution and the mix of a column that it is made of. No routine refuses anything: each is
 // total, and its contract is an equation with a definition of specs/. What the layer above needs to know of those definitions
 // (the ways back undo each other, mix and row shift go through xor, results are bytes again) is proved in proofs/Laws/.
+mod by_tables;
 mod field;
 mod mixing;
+mod numbers;
 mod rounds;
+mod row_table_0;
+mod row_table_1;
+mod row_table_2;
+mod row_table_3;
+mod rows;
 mod sub_back_table;
 mod sub_table;
 mod substitution;
 mod tables;
 
+pub use by_tables::round_by_tables;
 pub use field::double;
 pub use field::times;
 pub use mixing::mix;
 pub use mixing::mix_back;
+pub use numbers::mix_numbers;
 pub use rounds::round;
 pub use rounds::round_back;
 pub use rounds::two_rounds;
 pub use rounds::two_rounds_back;
+pub use rows::RowTables;
+pub use rows::row_tables;
 pub use substitution::substitute;
 pub use substitution::substitute_back;

@@ -7,6 +7,9 @@ pub mod Undone
 pub mod Words
 pub mod Rows
 pub mod Columns
+pub mod SquareNumbers
+pub mod MixedNumbers
+pub mod ByTables
 pub mod Compression
 pub mod Marked
 pub mod Counting

@@ -4,5 +4,6 @@ pub mod ARefusalChangesNothing
 pub mod Differences
 pub mod NothingIsLost
 pub mod OneAnswer
+pub mod TwoPaths
 pub mod TheDigest
 pub mod Theorems

@@ -5,6 +5,7 @@ use mathlib.Core.Path.{_≡_, sym, _∙_}
 use denote.Ref.{now}
 use Rattle.echo.proofs.run.rounds.Reads as rounds
 use Rattle.echo.proofs.run.rounds_back.Reads as rounds_back
+use Rattle.echo.proofs.run.rounds_by_bytes.Reads as rounds_by_bytes
 use Rattle.echo.proofs.compression.compress.Reads as compress
 use Rattle.echo.proofs.session.Session.«open».Reads as opening
 use Rattle.echo.proofs.session.Session.is_session.Reads as is_session
@@ -18,6 +19,10 @@ rounds-has-one-answer κs a r r′ s s′ p q = (p .0 ∙ sym (q .0), p .1 ∙ s
 pub rounds-back-has-one-answer : (κs : _) (a : _) (r r′ : _) (s s′ : _) → rounds_back.Post κs a r s → rounds_back.Post κs a r′ s′
     → (r ≡ r′) × (now (s .0) ≡ now (s′ .0))
 rounds-back-has-one-answer κs a r r′ s s′ p q = (p .0 ∙ sym (q .0), p .1 ∙ sym (q .1))
+
+pub rounds-by-bytes-has-one-answer : (κs : _) (a : _) (r r′ : _) (s s′ : _) → rounds_by_bytes.Post κs a r s → rounds_by_bytes.Post κs a r′ s′
+    → (r ≡ r′) × (now (s .0) ≡ now (s′ .0))
+rounds-by-bytes-has-one-answer κs a r r′ s s′ p q = (p .0 ∙ sym (q .0), p .1 ∙ sym (q .1))
 
 pub compress-has-one-answer : (κs : _) (a : _) (r r′ : _) (s s′ : _) → compress.Post κs a r s → compress.Post κs a r′ s′ → (r ≡ r′) × (now (s .0) ≡ now (s′ .0))
 compress-has-one-answer κs a r r′ s s′ p q = (p .0 ∙ sym (q .0), p .1 ∙ sym (q .1))

@@ -2,13 +2,15 @@
 use mathlib.Core.Path.{_≡_}
 use mathlib.Core.Bool.{false, true}
 use mathlib.Core.List.{List, [], _∷_, _++_}
-use Prim.Native.Nat.{ℕ, suc, _+_, _*_, _-_, _/_, _%_, _<_, _≤_}
+use Prim.Native.Nat.{ℕ, suc, _+_, _*_, _-_, _/_, _%_, _^_, _<_, _≤_}
 use lib.Dec.{lit<}
-use lib.ListN.{drop, length, replicate, take}
+use lib.ListN.{drop, getD, length, replicate, take}
 use Rattle.aes_round.specs.Bytes.{Bytes, tab, xorBytes}
+use Rattle.aes_round.specs.ByTables.{mixNumbers, rowTable, tableRound}
 use Rattle.aes_round.specs.Field.{mul}
 use Rattle.aes_round.specs.Marked.{Hold, _gives_}
 use Rattle.aes_round.specs.Mixing.{forward, mixColumn}
+use Rattle.aes_round.specs.Numbers.{numbers}
 use Rattle.aes_round.specs.Substitution.{subByte}
 use Rattle.aes_round.proofs.Theorems as aes-round
 use Rattle.echo.specs.declared.session.Session.{Session}
@@ -35,11 +37,13 @@ use Rattle.echo.specs.Session.{
   readLeaves,
   readRefusal,
 }
-use Rattle.echo.specs.Square.{bigMixColumns, bigShiftRows, keysFrom, rounds, roundsBack, word}
+use Rattle.echo.specs.Square.{bigMixColumns, bigShiftRows, bigSubWords, keysFrom, rounds, roundsBack, word}
 use Rattle.echo.proofs.ARefusalChangesNothing as refusing
+use Rattle.echo.proofs.Laws.ByTables as by-tables
 use Rattle.echo.proofs.Laws.Continued as continued
 use Rattle.echo.proofs.Laws.Folded as folded
 use Rattle.echo.proofs.Laws.Marked as marked
+use Rattle.echo.proofs.Laws.MixedNumbers as mixed-numbers
 use Rattle.echo.proofs.Laws.Padded as padded
 use Rattle.echo.proofs.Laws.Words as words
 use Rattle.echo.proofs.NothingIsLost as mixing
@@ -194,6 +198,32 @@ the-marked-examples-hold s =
         ),
       ),
     )
+
+-- ---- the path by tables, on the square as 64 numbers
+
+-- the word e after BIG.SubWords and BIG.ShiftRows, where κ is the counter of the word that it comes from
+pub a-word-by-tables : (start : ℕ) (salt s : List ℕ) (e : ℕ)
+    → Bytes 16 salt
+    → Bytes 256 s
+    → e < 16
+    → start + 5 * e % 16 < 2 ^ 64
+    → let κ = start + 5 * e % 16 in
+    let round = tableRound (rowTable 0) (rowTable 1) (rowTable 2) (rowTable 3) in
+    numbers 4 (word (bigShiftRows (bigSubWords (keysFrom start) salt s)) e)
+    ≡ round (round (numbers 4 (word s (5 * e % 16))) (κ % 2 ^ 32 ∷ κ / 2 ^ 32 ∷ 0 ∷ 0 ∷ [])) (numbers 4 salt)
+a-word-by-tables = by-tables.word-by-tables
+
+-- the number j of the word i in the column c of the square after BIG.MixColumns
+pub a-mix-by-numbers : (s : List ℕ) (c j i : ℕ)
+    → Bytes 256 s
+    → c < 4
+    → j < 4
+    → i < 4
+    → let a = numbers 64 s in
+    let at = 16 * c + j in
+    getD (numbers 64 (bigMixColumns s)) (at + 4 * i) 0
+    ≡ getD (mixNumbers (getD a at 0 ∷ getD a (at + 4) 0 ∷ getD a (at + 8) 0 ∷ getD a (at + 12) 0 ∷ [])) i 0
+a-mix-by-numbers = mixed-numbers.mix-by-numbers
 
 -- ---- nothing is lost before the fold
 

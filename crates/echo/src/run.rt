@@ -6,24 +6,21 @@ ghost use Rattle.echo.specs.Routines.{roundsBackLeave, roundsLeave, roun
 ghost use Rattle.echo.specs.Square.{keysFrom};
 ghost use Rattle.echo.specs.Square.{rounds as Square·rounds, roundsBack as Square·roundsBack};
 use super::lent::sixteen;
-use super::mix_columns::mix_columns;
 use super::mix_columns::mix_columns_back;
 use super::refusals::rounds_refusal;
-use super::shift_rows::shift_rows;
+use super::run_by_bytes::run_by_bytes;
+use super::run_by_tables::run_by_tables;
 use super::shift_rows::shift_rows_back;
-use super::sub_words::sub_words;
 use super::sub_words::sub_words_back;
 
+// The rounds forward by the path that is named here. For a node with little stack `run_by_bytes` takes the place of `run_by_tables`: both have this
+// contract, and nothing else changes.
 pub(crate) fn run(s: &mut [u8], count: u64, counter: u64, salt: [u8; 16])
     requires { ⌜ length (now s) ≡ 256 ⌝ }
     requires { ⌜ counter + 16 * count ≤ 2 ^ 64 ⌝ }
     ensures { λ _. ⌜ now (s .exit) ≡ Square·rounds count (keysFrom counter) salt (now (s .entry)) ⌝ }
 {
-    for r in 0..count {
-        sub_words(s, counter + 16 * r, salt);
-        shift_rows(s);
-        mix_columns(s);
-    }
+    run_by_tables(s, count, counter, salt);
 }
 
 fn run_back(s: &mut [u8], count: u64, counter: u64, salt: [u8; 16])
@@ -50,6 +47,19 @@ pub fn rounds(square: &mut [u8], count: u64, counter: u64, salt: &[u8]) -> u8
         return refusal;
     }
     run(square, count, counter, sixteen(salt, 0));
+    0
+}
+
+// The same byte by byte, whichever path `rounds` takes: slower, and with a quarter of the stack.
+pub fn rounds_by_bytes(square: &mut [u8], count: u64, counter: u64, salt: &[u8]) -> u8
+    ensures refusal { λ r. ⌜ r ≡ roundsRefusal (length (now (square .entry))) count counter (length (now (salt .entry))) ⌝ }
+    ensures left { λ _. ⌜ now (square .exit) ≡ roundsLeave (now (square .entry)) count counter (now (salt .entry)) ⌝ }
+{
+    let refusal = rounds_refusal(square.len(), count, counter, salt.len());
+    if refusal != 0 {
+        return refusal;
+    }
+    run_by_bytes(square, count, counter, sixteen(salt, 0));
     0
 }
 

@@ -48,6 +48,11 @@ words-undone f g l undo s S =
     sym (getD-word s i b hb)
     ∙ sym (ap (λ (w : List ℕ). getD w b 0) (ap (g i) (word-array (λ i. f i (word s i)) i hi (l i (word s i))) ∙ undo i (word s i) (word-bytes s i S)))))
 
+-- the word i after BIG.SubWords
+pub sub-words-word : (key : ℕ → List ℕ) (salt s : List ℕ) (i : ℕ) → i < 16 → word (bigSubWords key salt s) i ≡ aesRound (aesRound (word s i) (key i)) salt
+unfolding bigSubWords
+sub-words-word key salt s i h = word-array (λ i. aesRound (aesRound (word s i) (key i)) salt) i h (length-round _ salt)
+
 module _ (key : ℕ → List ℕ) (salt : List ℕ) (K : Keys key) (L : Bytes 16 salt) where
   -- ---- BIG.SubWords
 
@@ -66,7 +71,7 @@ module _ (key : ℕ → List ℕ) (salt : List ℕ) (K : Keys key) (L : Bytes 16
       ap (λ (x : List ℕ). aesRound x salt) (round-back-undone (aesRoundBack w salt) (key i) (round-back-bytes w salt W L) (K i))
       ∙ round-back-undone w salt W L
 
-  sub-words-bytes : (s : List ℕ) → Bytes 256 s → Bytes 256 (bigSubWords key salt s)
+  pub sub-words-bytes : (s : List ℕ) → Bytes 256 s → Bytes 256 (bigSubWords key salt s)
   unfolding bigSubWords
   sub-words-bytes s S = array-bytes 16 _ (λ i b hi hb. two-bytes i (word s i) (word-bytes s i S) .small b)
 
@@ -167,6 +172,12 @@ module _ (C : ℕ) (salt s₀ : List ℕ) where
       ∙ ap bigShiftRows
       (sub ∙ keys-on (λ w k. aesRound (aesRound w k) salt) C n s ∙ ap (bigSubWords (λ i. keysFrom C (16 * n + i)) salt) R))
       ∙ ap (λ (m : ℕ). rounds m (keysFrom C) salt s₀) (sym (add-one n))
+
+  -- the same of the rounds themselves
+  pub one-more : (n : ℕ)
+      → bigMixColumns (bigShiftRows (bigSubWords (keysFrom (C + 16 * n)) salt (rounds n (keysFrom C) salt s₀))) ≡ rounds (n + 1) (keysFrom C) salt s₀
+  unfolding Ran
+  one-more n = ran-more n _ _ _ _ refl refl refl refl
 
   pub ran-all : (n count : ℕ) (s : List ℕ) → Ran n s → n ≤ count → count ≤ n → s ≡ rounds count (keysFrom C) salt s₀
   unfolding Ran

@@ -1,12 +1,12 @@
--- `run` meets its contract, a round a turn. Assumes nothing.
+-- `run_by_bytes` meets its contract, a round a turn. Assumes nothing.
 use mathlib.Core.Path.{_≡_}
 use Prim.Native.Nat.{_-_, _≤_}
 use native.Mathlib.Omega.{arith}
 use lib.ListN.{length}
 use borrow.Author.Needs.{needs}
 use Rattle.echo.proofs.Laws.Square.{Ran, ran-all, ran-more, ran-none}
-use Rattle.echo.proofs.run.run.Statement.{statement}
-use Rattle.echo.proofs.run.run.Tie as tie
+use Rattle.echo.proofs.run_by_bytes.run_by_bytes.Statement.{statement}
+use Rattle.echo.proofs.run_by_bytes.run_by_bytes.Tie as tie
 
 abbrev Inv-loop : tie.InvT-loop
 Inv-loop s₀ count counter salt r₀ s r = (length s ≡ 256) × (r ≤ count) × Ran counter salt s₀ r s
@@ -47,8 +47,8 @@ same-length c = search needs
 returns : tie.Need-returns Inv-loop μ-loop
 returns c = search ran-all
 
-pub run-spec : {M : Type 1} → statement M
-run-spec =
+pub run-by-bytes-spec : {M : Type 1} → statement M
+run-by-bytes-spec =
     tie.close
     (tie.spec
     Inv-loop

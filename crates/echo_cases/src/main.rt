@@ -1,9 +1,9 @@
 // Runs rounds, forward and backward, and compressions on the cases of standard input, which a second implementation made, and prints
 // the refusal number of each and the whole lent memory behind it.
 //
-// A case is 513 bytes: a kind (1 rounds, 2 rounds back, 3 compression), the salt's length, the round count, the length of the square or
-// chaining variable and that of the block (two bytes each), the counter (eight bytes), then room for the salt (18 bytes), for the square
-// or chaining variable (272) and for the block (208). Numbers have their least significant byte first.
+// A case is 513 bytes: a kind (1 rounds, 2 rounds back, 3 compression, 4 rounds byte by byte), the salt's length, the round count, the length of
+// the square or chaining variable and that of the block (two bytes each), the counter (eight bytes), then room for the salt (18 bytes), for the
+// square or chaining variable (272) and for the block (208). Numbers have their least significant byte first.
 ghost use Prim.Native.Nat.{_≤_, _+_, _<_};
 ghost use mathlib.Core.Path.{_≡_};
 ghost use lib.ListN.{length};
@@ -66,6 +66,8 @@ fn apply(
         echo::rounds(lent, count, counter, salt)
     } else if kind == 2 {
         echo::rounds_back(lent, count, counter, salt)
+    } else if kind == 4 {
+        echo::rounds_by_bytes(lent, count, counter, salt)
     } else {
         echo::compress(lent, block, counter, salt)
     }

@@ -34,7 +34,18 @@ fn cases() -> Vec<Case> {
     cases.extend(compressions(&mut generator, &counters));
     cases.extend(empty_messages(&mut generator));
     cases.extend(refused::cases(&mut generator));
+    cases.extend(by_bytes(&cases));
     cases
+}
+
+/// All cases of rounds forward once more, by the other path: the same answers.
+fn by_bytes(cases: &[Case]) -> Vec<Case> {
+    let forward = cases.iter().filter(|case| case.kind == Kind::Rounds);
+    let other = |case: &Case| Case {
+        kind: Kind::RoundsByBytes,
+        ..case.clone()
+    };
+    forward.map(other).collect()
 }
 
 /// Starting counters: small ones, those whose 128 or 160 words cross a byte or

@@ -17,6 +17,9 @@ rounds-requires c κs = search needs
 rounds-back-requires : tie.Need-rounds-back-requires
 rounds-back-requires c κs = search needs
 
+rounds-by-bytes-requires : tie.Need-rounds-by-bytes-requires
+rounds-by-bytes-requires c κs = search needs
+
 compress-requires : tie.Need-compress-requires
 compress-requires c κs = search needs
 
@@ -38,6 +41,12 @@ same-length-3 c = search needs
 returns-3 : tie.Need-returns-3
 returns-3 c = search needs
 
+same-length-4 : tie.Need-same-length-4
+same-length-4 c = search needs
+
+returns-4 : tie.Need-returns-4
+returns-4 c = search needs
+
 pub apply-spec : {M : Type 1} → statement M
 apply-spec =
     tie.close
@@ -46,10 +55,13 @@ apply-spec =
     slice-aggregate-lent
     rounds-requires
     rounds-back-requires
+    rounds-by-bytes-requires
     compress-requires
     same-length
     returns
     same-length-2
     returns-2
     same-length-3
-    returns-3)
+    returns-3
+    same-length-4
+    returns-4)

@@ -15,6 +15,8 @@ pub enum Kind {
     RoundsBack = 2,
     /// A block taken into a chaining value.
     Compress = 3,
+    /// Rounds forward over a square, by the library's path byte by byte.
+    RoundsByBytes = 4,
 }
 
 /// A case: buffers with room to spare, and how much of each is handed over.
@@ -92,7 +94,7 @@ impl Case {
         let salt = &self.salt[..self.salt_length as usize];
         let count = u64::from(self.count);
         let number = match self.kind {
-            Kind::Rounds => checked::rounds(lent, count, self.counter, salt),
+            Kind::Rounds | Kind::RoundsByBytes => checked::rounds(lent, count, self.counter, salt),
             Kind::RoundsBack => checked::rounds_back(lent, count, self.counter, salt),
             Kind::Compress => checked::compress(lent, block, self.counter, salt),
         };

@@ -4,7 +4,7 @@ use super::*;
 #[test]
 fn records_and_lines_have_their_sizes() {
     let cases = cases();
-    assert!(cases.len() <= 120);
+    assert!(cases.len() <= 160);
     for case in &cases {
         assert_eq!(case.record().len(), RECORD);
         assert!(case.salt_length <= 18 && case.a_length <= 272 && case.b_length <= 208);
@@ -24,8 +24,14 @@ fn only_the_refused_cases_are_refused() {
     }
     // 44 of rounds, 22 compressions and 4 empty messages are done. Alone, 9 are
     // refused for the salt, 23 for the shape and 6 for the counter; of the
-    // twelve with several reasons, nine have a wrong salt.
-    assert_eq!(counts, [70, 0, 9 + 9, 0, 0, 0, 23 + 3, 6]);
+    // twelve with several reasons, nine have a wrong salt. Byte by byte, 22 of
+    // rounds are done; alone, 3 are refused for the salt, 8 for the shape and 2
+    // for the counter, and of the four with several reasons three have a wrong
+    // salt.
+    let by_bytes = [22, 0, 3 + 3, 0, 0, 0, 8 + 1, 2];
+    let others = [70, 0, 9 + 9, 0, 0, 0, 23 + 3, 6];
+    let all: Vec<i32> = by_bytes.iter().zip(others).map(|(a, b)| a + b).collect();
+    assert_eq!(counts[..], all[..]);
 }
 
 #[test]
@@ -37,6 +43,17 @@ fn backward_answers_are_the_squares_before() {
         backward.a == forward.answer().1 && backward.answer().1 == forward.a
     });
     assert_eq!(undone.count(), 12);
+}
+
+#[test]
+fn both_paths_have_the_same_answers() {
+    let cases = cases();
+    let answers = |kind| {
+        let of_kind = cases.iter().filter(move |case| case.kind == kind);
+        of_kind.map(Case::answer).collect::<Vec<_>>()
+    };
+    assert_eq!(answers(Kind::Rounds), answers(Kind::RoundsByBytes));
+    assert_eq!(answers(Kind::Rounds).len(), 22 + 3 + 8 + 2 + 4);
 }
 
 #[test]

@@ -1,6 +1,6 @@
 # make                          proves and builds everything, then runs the main job on examples
 # make test                     the gate
-# make bench                    times and stack of a digest, against plain and the AES instruction
+# make bench                    times and stack of a digest, against plain, tables and the AES instruction
 # make trials SEED=1 CASES=1000 a longer run against the second implementation, with its own seed and number of cases
 # make install PREFIX=/usr/local DESTDIR=   header, archive, pkg-config file and programs, as `make` built them
 # make clean                    removes what was built

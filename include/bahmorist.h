@@ -2,10 +2,11 @@
  *
  * Link target/staticlib/libbahmorist.a, which `rt staticlib bahmorist` makes for x86-64 Linux; `tools/library` makes
  * target/native/libbahmorist.a for the machine at hand. The library keeps nothing between calls, allocates nothing and may be called from
- * several threads at once. As it is compiled today no call takes more than 6,000 bytes of stack, what the C library's memcpy and memset take
- * not counted. The code for x86-64 uses the SSE2 registers, which a kernel has to save around a call.
+ * several threads at once. As it is compiled today no call takes more than 7,000 bytes of stack, what the C library's memcpy and memset take
+ * not counted; 4,096 of them are tables, which a build for a task with little stack does without (docs/DECISIONS.md, "Two paths"). The code for
+ * x86-64 uses the SSE2 registers, which a kernel has to save around a call.
  *
- * How long a call takes depends on the data: the substitution is a table. Nothing is erased: what was worked on stays on the stack until
+ * How long a call takes depends on the data: the substitution is in tables. Nothing is erased: what was worked on stays on the stack until
  * something else is written there.
  *
  * Each function answers 0, or the number that it refuses by (enum bahmorist_refusal). Where several apply the lowest is given, but between 9

@@ -1,5 +1,5 @@
--- What the path by tables computes, on columns that are numbers of 32 bits. FIPS 197 has no such tables: the theorems `the-round-by-tables` and
--- `the-mix-of-numbers` (proofs/Theorems.antt) say that these are its round and its mix. Assumes nothing.
+-- What the path by tables computes, on columns that are numbers of 32 bits. FIPS 197 has no such tables: that a round by them is its round is a
+-- theorem, `the-round-by-tables` (proofs/Theorems.antt). Assumes nothing.
 use mathlib.Core.Path.{_≡_}
 use mathlib.Core.List.{List}
 use Prim.Native.Nat.{ℕ, _+_, _*_, _%_, _<_}
@@ -23,7 +23,7 @@ rowTable i = tab 256 (λ x. rowNumber i (subByte x))
 unfoldable pub rowTables : RowTables
 rowTables = record { «row_0» = rowTable 0; «row_1» = rowTable 1; «row_2» = rowTable 2; «row_3» = rowTable 3 }
 
--- t is the table of row i where sub is that of the substitution
+-- t is the table of row i where sub is that of the substitution; cited by a private function alone
 pub record Follows (i : ℕ) (sub t : List ℕ) : Type 0 where
   pub long : length t ≡ 256
   pub each : (x : ℕ) → x < 256 → getD t x 0 ≡ rowNumber i (getD sub x 0)

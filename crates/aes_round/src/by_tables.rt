@@ -3,7 +3,7 @@ ghost use mathlib.Core.Path.{_≡_};
 ghost use Rattle.aes_round.specs.ByTables.{tableColumn, tableRound};
 
 // A column: row 0 from the number a, row 1 from b, row 2 from c, row 3 from d.
-fn column(
+fn table_column(
     t: &[u32; 256],
     u: &[u32; 256],
     v: &[u32; 256],
@@ -32,9 +32,9 @@ pub fn round_by_tables(
     ensures { λ r. ⌜ r ≡ tableRound (now (t .entry)) (now (u .entry)) (now (v .entry)) (now (w .entry)) s k ⌝ }
 {
     [
-        column(t, u, v, w, s[0], s[1], s[2], s[3]) ^ k[0],
-        column(t, u, v, w, s[1], s[2], s[3], s[0]) ^ k[1],
-        column(t, u, v, w, s[2], s[3], s[0], s[1]) ^ k[2],
-        column(t, u, v, w, s[3], s[0], s[1], s[2]) ^ k[3],
+        table_column(t, u, v, w, s[0], s[1], s[2], s[3]) ^ k[0],
+        table_column(t, u, v, w, s[1], s[2], s[3], s[0]) ^ k[1],
+        table_column(t, u, v, w, s[2], s[3], s[0], s[1]) ^ k[2],
+        table_column(t, u, v, w, s[3], s[0], s[1], s[2]) ^ k[3],
     ]
 }

@@ -72,7 +72,7 @@ fn sub_and_shift(
 
 // BIG.MixColumns (section 3.3), four byte positions at once. With the columns of the square in the inner loop the compiler does four of them at
 // once too; the other way round a digest takes a sixth longer.
-fn mix_columns(s: [u32; 64]) -> [u32; 64]
+fn mix_square(s: [u32; 64]) -> [u32; 64]
     ensures { λ r. ⌜ r ≡ numbers 64 (bigMixColumns (bytesOf 64 s)) ⌝ }
 {
     let mut r = [0u32; 64];
@@ -107,7 +107,7 @@ pub(crate) fn run_by_tables(s: &mut [u8], count: u64, counter: u64, salt: [u8; 1
     let mut square = numbers_of_square(s);
     for r in 0..count {
         let shifted = sub_and_shift(&t, &u, &v, &w, square, counter + 16 * r, key);
-        square = mix_columns(shifted);
+        square = mix_square(shifted);
     }
     put_numbers(s, square);
 }

@@ -36,8 +36,8 @@ add-sub-and-shift c = omega arith
 sub-and-shift-requires : tie.Need-sub-and-shift-requires Inv-loop μ-loop
 sub-and-shift-requires c κs = (search row-0, (search row-1, (search row-2, (search row-3, omega arith))))
 
-mix-columns-requires : tie.Need-mix-columns-requires Inv-loop μ-loop
-mix-columns-requires c κs = search needs
+mix-square-requires : tie.Need-mix-square-requires Inv-loop μ-loop
+mix-square-requires c κs = search needs
 
 add-r : tie.Need-add-r Inv-loop μ-loop
 add-r c = search needs
@@ -70,7 +70,7 @@ run-by-tables-spec =
     mul-sub-and-shift
     add-sub-and-shift
     sub-and-shift-requires
-    mix-columns-requires
+    mix-square-requires
     add-r
     loop-less
     loop-again

@@ -1,8 +1,8 @@
--- `column` meets its contract: a byte is a place of a table. Assumes nothing.
+-- `table_column` meets its contract: a byte is a place of a table. Assumes nothing.
 use borrow.Author.Needs.{needs}
 use Rattle.aes_round.proofs.Laws.ByTables.{column-is}
-use Rattle.aes_round.proofs.by_tables.column.Statement.{statement}
-use Rattle.aes_round.proofs.by_tables.column.Tie as tie
+use Rattle.aes_round.proofs.by_tables.table_column.Statement.{statement}
+use Rattle.aes_round.proofs.by_tables.table_column.Tie as tie
 
 cast-p : tie.Need-cast-p
 cast-p c = search needs
@@ -43,8 +43,8 @@ element-copy-out-q-2 c = search needs
 returns : tie.Need-returns
 returns c = column-is _ _ _ _ _ _ _ _
 
-pub column-spec : {M : Type 1} → statement M
-column-spec =
+pub table-column-spec : {M : Type 1} → statement M
+table-column-spec =
     tie.close
     (tie.spec
     cast-p

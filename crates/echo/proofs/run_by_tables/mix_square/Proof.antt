@@ -1,9 +1,9 @@
--- `mix_columns` meets its contract: a turn of the inner loop stores four numbers. Assumes nothing.
+-- `mix_square` meets its contract: a turn of the inner loop stores four numbers. Assumes nothing.
 use Prim.Native.Nat.{_+_, _*_, _-_, _<_, _≤_}
 use borrow.Author.Needs.{needs}
 use Rattle.echo.proofs.Laws.MixedNumbers.{Stored, all-stored, begin-stored, end-stored, next-stored, none-stored}
-use Rattle.echo.proofs.run_by_tables.mix_columns.Statement.{statement}
-use Rattle.echo.proofs.run_by_tables.mix_columns.Tie as tie
+use Rattle.echo.proofs.run_by_tables.mix_square.Statement.{statement}
+use Rattle.echo.proofs.run_by_tables.mix_square.Tie as tie
 
 abbrev Inv-loop2 : tie.InvT-loop2
 Inv-loop2 s r₀ j c₀ r c = (j < 4) × (c ≤ 4) × Stored s (16 * j + 4 * c) r
@@ -131,8 +131,8 @@ loop-again c = (search needs, search end-stored)
 returns : tie.Need-returns Inv-loop2 μ-loop2 Inv-loop μ-loop
 returns c = search all-stored
 
-pub mix-columns-spec : {M : Type 1} → statement M
-mix-columns-spec =
+pub mix-square-spec : {M : Type 1} → statement M
+mix-square-spec =
     tie.close
     (tie.spec
     Inv-loop2

@@ -1,6 +1,7 @@
 //! All families, in the order in which they are tried.
 
 pub mod block_edges;
+pub mod both_paths;
 pub mod compressions;
 pub mod descriptors;
 pub mod echosum_words;
@@ -19,7 +20,7 @@ pub mod there_and_back;
 
 use crate::family::Family;
 
-pub const ALL: [Family; 16] = [
+pub const ALL: [Family; 17] = [
     block_edges::FAMILY,
     every_length::FAMILY,
     random_messages::FAMILY,
@@ -30,6 +31,7 @@ pub const ALL: [Family; 16] = [
     refusals::FAMILY,
     null_pointers::FAMILY,
     tables::FAMILY,
+    both_paths::FAMILY,
     program_tables::FAMILY,
     program_pieces::FAMILY,
     echosum_words::FAMILY,

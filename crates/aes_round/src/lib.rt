@@ -3,6 +3,12 @@
 //     let out = aes_round::round(word, key);
 //     let word_again = aes_round::round_back(out, key);
 //
+// or, forward, by tables that are made once, on a word and a key of four numbers of 32 bits:
+//
+//     let tables = aes_round::row_tables();
+//     let t = tables.row_0;                       // and u, v and w, of rows 1 to 3
+//     let out = aes_round::round_by_tables(&t, &u, &v, &w, word, key);
+//
 // with the field of bytes, the substitution and the mix of a column that it is made of. No routine refuses anything: each is
 // total, and its contract is an equation with a definition of specs/. What the layer above needs to know of those definitions
 // (the ways back undo each other, mix and row shift go through xor, results are bytes again) is proved in proofs/Laws/.

@@ -4,8 +4,8 @@ ghost use Rattle.aes_round.specs.ByTables.{mixNumbers};
 ghost use Rattle.aes_round.specs.Field.{mul};
 ghost use Rattle.aes_round.specs.Numbers.{byteOf, number};
 
-// Each byte times x: shifted by one place without its top bit, and 1b xored in where that was set. h has the top bits; less h / 80, a byte of
-// it is 7f where it was 80.
+// Each byte times x: shifted by one place without its top bit, and 1b xored in where that was set. h has the top bits: with h / 80 taken away, a
+// byte of it that was 80 is 7f, of which the mask leaves 1b, and no byte borrows from the next.
 fn double_each(x: u32) -> u32
     ensures { λ r. ⌜ r ≡ number (λ p. mul 2 (byteOf x p)) ⌝ }
 {

@@ -50,7 +50,7 @@ pub fn rounds(square: &mut [u8], count: u64, counter: u64, salt: &[u8]) -> u8
     0
 }
 
-// The same byte by byte, whichever path `rounds` takes: slower, and with a quarter of the stack.
+// The same byte by byte, whichever path `rounds` takes: slower, and with a seventh of the stack.
 pub fn rounds_by_bytes(square: &mut [u8], count: u64, counter: u64, salt: &[u8]) -> u8
     ensures refusal { λ r. ⌜ r ≡ roundsRefusal (length (now (square .entry))) count counter (length (now (salt .entry))) ⌝ }
     ensures left { λ _. ⌜ now (square .exit) ≡ roundsLeave (now (square .entry)) count counter (now (salt .entry)) ⌝ }

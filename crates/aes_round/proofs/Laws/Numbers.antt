@@ -16,7 +16,7 @@ use Rattle.aes_round.specs.Mixing.{dot, forward, mixColumn}
 use Rattle.aes_round.specs.Numbers.{byteOf, bytesOf, number, numbers}
 use Rattle.aes_round.specs.ByTables.{mixNumbers}
 use Rattle.aes_round.proofs.Laws.Every.{agree}
-use Rattle.aes_round.proofs.Laws.Bytes.{getD-tab, is-tab, length-tab, tab-bytes}
+use Rattle.aes_round.proofs.Laws.Bytes.{getD-tab, is-tab, tab-bytes}
 use Rattle.aes_round.proofs.Laws.Xor.{code-xor, xor-assoc, xor-comm, xor-lt, xor-mod, xor-self, xor-shr, xor-zero-l}
 use Rattle.aes_round.proofs.Laws.Field.{mul-lt, mul-one-l, mul-xor, mul-xor-l}
 use Rattle.aes_round.proofs.Laws.Mixing.{four}
@@ -119,10 +119,6 @@ xor-number f g hf hg =
 -- ---- lists of numbers
 
 module _ (n : ℕ) where
-  pub length-numbers : (s : List ℕ) → length (numbers n s) ≡ n
-  unfolding numbers
-  length-numbers s = length-tab n _
-
   pub getD-numbers : (s : List ℕ) (k : ℕ) → k < n → getD (numbers n s) k 0 ≡ number (λ p. getD s (4 * k + p) 0)
   unfolding numbers
   getD-numbers s k h = getD-tab n _ k h

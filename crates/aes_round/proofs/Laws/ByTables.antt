@@ -18,27 +18,34 @@ use Rattle.aes_round.specs.Numbers.{byteOf, number, numbers}
 use Rattle.aes_round.specs.ByTables.{Follows, rowNumber, rowTable, rowTables, tableColumn, tableRound}
 use Rattle.aes_round.proofs.Laws.Every.{Agree, agree, below, every}
 use Rattle.aes_round.proofs.Laws.Bytes.{bytes-below, getD-tab, is-tab, tab-ext}
-use Rattle.aes_round.proofs.Laws.Xor.{xor-lt}
-use Rattle.aes_round.proofs.Laws.Field.{mul-lt, mul-one-l, mul-zero-l}
+use Rattle.aes_round.proofs.Laws.Xor.{code-xor, xor-lt}
+use Rattle.aes_round.proofs.Laws.Field.{mul-lt, mul-one-l, mul-three, mul-zero-l}
 use Rattle.aes_round.proofs.Laws.Mixing.{forward-bytes, mix-bytes}
 use Rattle.aes_round.proofs.Laws.Substitution.{sub-lt, table-at}
 use Rattle.aes_round.proofs.Laws.Numbers.{byte-0, byte-number, getD-numbers, number-ext, xor-number}
 
 -- ---- the tables
 
--- a coefficient of the matrix times a byte by one doubling at most: the test of a table computes this, a small part of the field's own product
+-- a byte doubled, and a coefficient of the matrix times a byte by one doubling at most: the test of a table computes these, a small part of the
+-- field's own product
+abbrev doubled : ℕ → ℕ
+doubled b = bitXor (b * 2 % 256) (b / 128 * 0x1b)
+
+doubled-is : (b : ℕ) → b < 256 → doubled b ≡ mul 2 b
+unfolding mul xor
+doubled-is = agree doubled (mul 2) 256 tt
+
 abbrev quick : ℕ → ℕ → ℕ
 quick zero b = 0
 quick (suc zero) b = b
-quick (suc (suc zero)) b = bitXor (b * 2 % 256) (b / 128 * 0x1b)
-quick (suc (suc (suc c))) b = bitXor (bitXor (b * 2 % 256) (b / 128 * 0x1b)) b
+quick (suc (suc zero)) b = doubled b
+quick (suc (suc (suc c))) b = bitXor (doubled b) b
 
 quick-is : (c b : ℕ) → c < 4 → b < 256 → quick c b ≡ mul c b
-unfolding mul xor
 quick-is zero b hc h = sym (mul-zero-l b)
 quick-is (suc zero) b hc h = sym (mul-one-l b h)
-quick-is (suc (suc zero)) b hc h = agree (quick 2) (mul 2) 256 tt b h
-quick-is (suc (suc (suc zero))) b hc h = agree (quick 3) (mul 3) 256 tt b h
+quick-is (suc (suc zero)) b hc h = doubled-is b h
+quick-is (suc (suc (suc zero))) b hc h = code-xor (doubled b) b ∙ ap (λ (d : ℕ). xor d b) (doubled-is b h) ∙ mul-three b h
 quick-is (suc (suc (suc (suc c)))) b hc h = absurd (omega arith)
 
 forward-lt : (k : ℕ) → k < 16 → getD forward k 0 < 4

@@ -71,6 +71,11 @@ mul-assoc p q r hp hq hr =
     (λ q. mul-xor-l (mul q R))
     (below (λ k. every (λ j. Agree (λ i. mul (mul (2 ^ j) (2 ^ i)) (2 ^ k)) (λ i. mul (2 ^ j) (mul (2 ^ i) (2 ^ k))) 8) 8) 8 tt k lk) p q hp hq) r hr
 
+-- three times a byte is twice the byte and the byte
+pub mul-three : (b : ℕ) → b < 256 → xor (mul 2 b) b ≡ mul 3 b
+unfolding xor
+mul-three b h = ap (xor (mul 2 b)) (sym (mul-one-l b h)) ∙ sym (mul-xor-l b 2 1)
+
 -- ---- doubling, by shift and xor
 
 abbrev pick : Bool → ℕ → ℕ → ℕ

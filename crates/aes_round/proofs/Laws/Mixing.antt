@@ -19,7 +19,7 @@ use Rattle.aes_round.proofs.Laws.Field.{mul-lt, mul-xor}
 pub four : {a b c d a′ b′ c′ d′ : ℕ} → a ≡ a′ → b ≡ b′ → c ≡ c′ → d ≡ d′ → a ∷ b ∷ c ∷ d ∷ [] ≡ a′ ∷ b′ ∷ c′ ∷ d′ ∷ []
 four p q r s = cc
 
-abbrev sum4 : ℕ → ℕ → ℕ → ℕ → ℕ
+abbrev pub sum4 : ℕ → ℕ → ℕ → ℕ → ℕ
 sum4 a b c d = xor (xor a b) (xor c d)
 
 sum4-xor : (a b c d a′ b′ c′ d′ : ℕ) → xor (sum4 a b c d) (sum4 a′ b′ c′ d′) ≡ sum4 (xor a a′) (xor b b′) (xor c c′) (xor d d′)

@@ -18,8 +18,8 @@ use Rattle.aes_round.specs.ByTables.{mixNumbers}
 use Rattle.aes_round.proofs.Laws.Every.{agree}
 use Rattle.aes_round.proofs.Laws.Bytes.{getD-tab, is-tab, tab-bytes}
 use Rattle.aes_round.proofs.Laws.Xor.{code-xor, xor-assoc, xor-comm, xor-lt, xor-mod, xor-self, xor-shr, xor-zero-l}
-use Rattle.aes_round.proofs.Laws.Field.{mul-lt, mul-one-l, mul-xor, mul-xor-l}
-use Rattle.aes_round.proofs.Laws.Mixing.{four}
+use Rattle.aes_round.proofs.Laws.Field.{mul-lt, mul-one-l, mul-three, mul-xor}
+use Rattle.aes_round.proofs.Laws.Mixing.{four, sum4}
 
 -- ---- the bytes of a number
 
@@ -39,22 +39,10 @@ pub byte-is : (x p : ℕ) → byteOf x p ≡ x / 256 ^ p % 256
 unfolding byteOf
 byte-is x p = refl
 
--- the bytes in the code's form
+-- the lowest one in the code's form
 pub byte-0 : (x : ℕ) → x % 0x100 ≡ byteOf x 0
 unfolding byteOf
 byte-0 x = ap (λ (q : ℕ). q % 256) (sym (div-one x))
-
-pub byte-1 : (x : ℕ) → x / 0x100 % 0x100 ≡ byteOf x 1
-unfolding byteOf
-byte-1 x = refl
-
-pub byte-2 : (x : ℕ) → x / 0x10000 % 0x100 ≡ byteOf x 2
-unfolding byteOf
-byte-2 x = refl
-
-pub byte-3 : (x : ℕ) → x / 0x1000000 % 0x100 ≡ byteOf x 3
-unfolding byteOf
-byte-3 x = refl
 
 -- what is done bit by bit is done byte by byte
 pub byte-xor : (a b p : ℕ) → p < 4 → byteOf (xor a b) p ≡ xor (byteOf a p) (byteOf b p)
@@ -255,18 +243,11 @@ module _ (x : ℕ) (h : x < 2 ^ 32) where
 
 -- ---- four columns mixed at once
 
-abbrev sum4 : ℕ → ℕ → ℕ → ℕ → ℕ
-sum4 a b c d = xor (xor a b) (xor c d)
-
 turn4 : (a b c d : ℕ) → sum4 a b c d ≡ sum4 b c d a
 turn4 a b c d = xor-assoc a b (xor c d) ∙ xor-comm a _ ∙ ap (λ (z : ℕ). xor z a) (sym (xor-assoc b c d)) ∙ xor-assoc (xor b c) d a
 
 cancel : (a b : ℕ) → xor a (xor a b) ≡ b
 cancel a b = sym (xor-assoc a a b) ∙ ap (λ (z : ℕ). xor z b) (xor-self a) ∙ xor-zero-l b
-
-thrice-is : (b : ℕ) → b < 256 → xor (mul 2 b) b ≡ mul 3 b
-unfolding xor
-thrice-is b h = ap (xor (mul 2 b)) (sym (mul-one-l b h)) ∙ sym (mul-xor-l b 2 1)
 
 -- a row of the matrix by one doubling: 02 a + 03 b + c + d = a + (a + b + c + d) + 02 (a + b)
 row-mixed : (a b c d : ℕ) → b < 256 → c < 256 → d < 256
@@ -277,7 +258,7 @@ row-mixed a b c d hb hc hd =
     ∙ xor-assoc (mul 2 a) (mul 2 b) (xor b (xor c d))
     ∙ ap (xor (mul 2 a)) (sym (xor-assoc (mul 2 b) b (xor c d)))
     ∙ sym (xor-assoc (mul 2 a) (xor (mul 2 b) b) (xor c d))
-    ∙ ap₂ xor (ap (xor (mul 2 a)) (thrice-is b hb)) (ap₂ xor (sym (mul-one-l c hc)) (sym (mul-one-l d hd)))
+    ∙ ap₂ xor (ap (xor (mul 2 a)) (mul-three b hb)) (ap₂ xor (sym (mul-one-l c hc)) (sym (mul-one-l d hd)))
 
 -- a row of four numbers, by the double e of two of them and the sum t of all
 row-of-numbers : (a b c d t e : ℕ) → a < 2 ^ 32 → b < 2 ^ 32 → c < 2 ^ 32 → d < 2 ^ 32

@@ -10,8 +10,8 @@ use Rattle.aes_round.specs.Bytes.{tab}
 use Rattle.aes_round.specs.Numbers.{byteOf, bytesOf, number, numbers}
 use Rattle.aes_round.proofs.Laws.Bytes.{getD-tab, length-tab, same-list}
 use Rattle.aes_round.proofs.Laws.Fill.{Filled}
-use Rattle.aes_round.proofs.Laws.Numbers.{are-bytes-of, are-numbers, byte-0, byte-1, byte-2, byte-3, byte-of-numbers, bytes-of-bytes, four-numbers}
-use Rattle.aes_round.proofs.Laws.Numbers.{getD-numbers, number-ext, number-of}
+use Rattle.aes_round.proofs.Laws.Numbers.{are-bytes-of, are-numbers, byte-0, byte-is, byte-of-numbers, bytes-of-bytes, four-numbers, getD-numbers}
+use Rattle.aes_round.proofs.Laws.Numbers.{number-ext, number-of}
 use Rattle.echo.specs.Placed.{Placed}
 use Rattle.echo.specs.Square.{word}
 use Rattle.echo.proofs.Laws.Placed.{fill-part, place-more, place-none}
@@ -43,7 +43,7 @@ square-numbers s l r k F h = are-numbers 64 s r (F .long) (λ i lt. F .done i (o
 pub number-put : (s : List ℕ) (at x : ℕ) → at + 4 ≤ length s
     → Placed s at (tab 4 (byteOf x)) 4
     (set (set (set (set s at (x % 0x100)) (at + 1) (x / 0x100 % 0x100)) (at + 2) (x / 0x10000 % 0x100)) (at + 3) (x / 0x1000000 % 0x100))
-number-put s at x h = on 3 _ _ (on 2 _ _ (on 1 _ _ first (byte-1 x) (lit< tt)) (byte-2 x) (lit< tt)) (byte-3 x) (lit< tt)
+number-put s at x h = on 3 _ _ (on 2 _ _ (on 1 _ _ first (sym (byte-is x 1)) (lit< tt)) (sym (byte-is x 2)) (lit< tt)) (sym (byte-is x 3)) (lit< tt)
   where
     w : List ℕ
     w = tab 4 (byteOf x)

@@ -22,6 +22,7 @@ pub mod Stream
 pub mod Folded
 pub mod Padded
 pub mod States
+pub mod Kept
 pub mod Continued
 pub mod Opened
 pub mod AtOnce

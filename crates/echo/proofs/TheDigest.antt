@@ -5,8 +5,7 @@
 use mathlib.Core.Path.{_≡_, refl, sym, ap, _∙_}
 use mathlib.Core.Bool.{true}
 use mathlib.Core.List.{List, [], _∷_, _++_, append-assoc, append-nil}
-use Prim.Native.Nat.{ℕ, zero, suc, _+_, _/_, _≤_}
-use native.Mathlib.Nat.{zero-add}
+use Prim.Native.Nat.{ℕ, zero, suc, _/_, _≤_}
 use native.Mathlib.Omega.{arith}
 use lib.ListN.{drop, length, length-append}
 use Rattle.echo.specs.declared.session.Answer.{Answer}
@@ -15,7 +14,7 @@ use Rattle.echo.specs.Digest.{digestOf}
 use Rattle.echo.specs.Pieces.{addAll, joined}
 use Rattle.echo.specs.Session.{addAnswer, addBytes, addRefusal, admitted, digestLeaves, digestRefusal, limit, openAnswer, opened, readAnswer, readLeaves}
 use Rattle.echo.proofs.Laws.Opened.{add-nothing}
-use Rattle.echo.proofs.Laws.Pieces.{opens, reads, takes}
+use Rattle.echo.proofs.Laws.Pieces.{joined-lengths, opens, reads, takes}
 use Rattle.echo.proofs.Laws.Refusals.{digest-0, done}
 
 pub reading-changes-nothing : (s : Session) (room : ℕ) → readAnswer s room .session ≡ s
@@ -63,11 +62,6 @@ module _ (h : ℕ) (salt : List ℕ) (a : admitted h ≡ true) (l : length salt 
   -- the session of all pieces is that of the message in one piece
   pub pieces-are-one : (pieces : List (List ℕ)) → length (joined pieces) ≤ limit → addAll (openAnswer h salt .session) pieces ≡ holding (joined pieces)
   pieces-are-one pieces fits = ap (λ (s : Session). addAll s pieces) opened-session ∙ all-joined [] pieces fits
-
-  joined-lengths : (xs ys : List (List ℕ)) → length (joined (xs ++ ys)) ≡ length (joined xs) + length (joined ys)
-  unfolding joined
-  joined-lengths [] ys = sym (zero-add (length (joined ys)))
-  joined-lengths (x ∷ xs) ys = omega (arith, length-append x (joined (xs ++ ys)), length-append x (joined xs), joined-lengths xs ys)
 
   -- no piece is refused
   pub every-piece-is-taken : (before : List (List ℕ)) (piece : List ℕ) (after : List (List ℕ)) → length (joined (before ++ piece ∷ after)) ≤ limit

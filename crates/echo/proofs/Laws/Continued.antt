@@ -15,15 +15,24 @@ use Rattle.echo.specs.declared.session.Session.{Session}
 use Rattle.echo.specs.Digest.{block, blockCount, counterAt, iterate}
 use Rattle.echo.specs.Families.{blockSize, chainingSize, roundCount}
 use Rattle.echo.specs.Padding.{padding}
-use Rattle.echo.specs.Session.{addAnswer, addBytes, allZero, isSession, limit, readAnswer, readLeaves, sessionDigest}
+use Rattle.echo.specs.Session.{addAnswer, addBytes, allZero, finalChaining, isSession, limit, readAnswer, readLeaves, sessionDigest}
 use Rattle.echo.proofs.Laws.Families.{block-pos, sizes}
 use Rattle.echo.proofs.Laws.Sessions.{SessionFits, added, both, left-0, read-0, session-fits}
+use Rattle.echo.proofs.Laws.Stream.{length-turns, one-left}
 use Rattle.echo.proofs.Laws.States.{add-more, chained, made-eq, state-final, state-is-session, stateFrom}
 
 zeros-only : (l : List ℕ) → allZero l ≡ true → l ≡ replicate (length l) 0
 unfolding allZero
 zeros-only [] z = refl
 zeros-only (x ∷ l) z = let p = both (eqb x 0) (allZero l) z in ap₂ (λ (y : ℕ) (r : List ℕ). y ∷ r) (eqb-true x 0 (p .0)) (zeros-only l (p .1))
+
+pub session-digest-long : (s : Session) → s .bits ≤ 512 → length (sessionDigest s) ≡ s .bits / 8
+unfolding sessionDigest finalChaining
+session-digest-long s most =
+    let c = chainingSize (s .bits) in
+    let some = one-left (blockSize (s .bits)) (block-pos (s .bits)) (s .taken) in
+    let S = sizes (s .bits) in
+    length-take-le (s .bits / 8) _ (rw (length-turns c (roundCount c) (s .salt) _ _ _ _ some) (omega arith))
 
 module _ (s : Session) (is : isSession s ≡ true) (lc : length (s .chaining) ≡ 128) (lw : length (s .waiting) ≡ 192) where
   abbrev h : ℕ

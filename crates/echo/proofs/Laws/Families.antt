@@ -3,6 +3,7 @@ use mathlib.Core.Path.{_≡_}
 use mathlib.Core.Bool.{Bool, true, false}
 use Prim.Native.Nat.{ℕ, _+_, _*_, _/_, _<_, _≤_}
 use native.Mathlib.Omega.{arith}
+use borrow.Author.Tests.{le-leb, lt-leb}
 use lib.Dec.{leb}
 use Rattle.echo.specs.Families.{blockSize, chainingSize, either, roundCount}
 
@@ -33,3 +34,11 @@ sizes h = by (leb h 256)
 
 pub block-pos : (h : ℕ) → 0 < blockSize h
 block-pos h = let S = sizes h in omega arith
+
+pub block-short : (h : ℕ) → h ≤ 256 → 192 ≡ blockSize h
+unfolding blockSize
+block-short h l = rw (le-leb h 256 l)
+
+pub block-long : (h : ℕ) → 256 < h → 128 ≡ blockSize h
+unfolding blockSize
+block-long h l = rw (lt-leb h 256 l)

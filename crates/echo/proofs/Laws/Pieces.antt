@@ -1,21 +1,52 @@
 -- A session as a plain list of the bytes added: what opening, adding and reading answer on it, for whoever knows this crate by its
 -- promises alone. Assumes nothing.
-use mathlib.Core.Path.{_≡_, refl, sym}
-use mathlib.Core.Bool.{true}
-use mathlib.Core.List.{List, _++_}
+use mathlib.Core.Path.{_≡_, refl, sym, ap, _∙_}
+use mathlib.Core.Bool.{not, true}
+use mathlib.Core.List.{List, [], _∷_, _++_}
 use Prim.Native.Nat.{ℕ, _+_, _/_, _≤_}
+use native.Mathlib.Nat.{zero-add}
 use native.Mathlib.Omega.{arith}
-use lib.ListN.{drop, length}
+use lib.ListN.{drop, length, length-append}
 use Rattle.echo.specs.declared.session.Answer.{Answer}
 use Rattle.echo.specs.Digest.{digestOf}
-use Rattle.echo.specs.Session.{addAnswer, addBytes, admitted, limit, openAnswer, opened, readAnswer, readLeaves}
+use Rattle.echo.specs.Pieces.{joined}
+use Rattle.echo.specs.Refusals.{_when_, firstOf, noSalt}
+use Rattle.echo.specs.Session.{addAnswer, addBytes, admitted, blank, limit, openAnswer, openRefusal, opened, readAnswer, readLeaves}
+use Rattle.echo.proofs.Laws.Continued.{session-digest-long}
 use Rattle.echo.proofs.Laws.Opened.{add-pieces, opened-bits, opened-digest, opened-is-session, opened-taken}
-use Rattle.echo.proofs.Laws.Sessions.{added, left-0, open-0, read-0}
+use Rattle.echo.proofs.Laws.Sessions.{added, admitted-most, left-0, open-0, read-0}
 use Rattle.echo.proofs.Laws.Words.{sixteen-are}
 
 pub admitted-256 : admitted 256 ≡ true
 unfolding admitted
 admitted-256 = refl
+
+-- ---- what pieces join to
+
+pub joined-none : joined [] ≡ []
+unfolding joined
+joined-none = refl
+
+pub joined-more : (piece : List ℕ) (pieces : List (List ℕ)) → joined (piece ∷ pieces) ≡ piece ++ joined pieces
+unfolding joined
+joined-more piece pieces = refl
+
+pub joined-lengths : (xs ys : List (List ℕ)) → length (joined (xs ++ ys)) ≡ length (joined xs) + length (joined ys)
+unfolding joined
+joined-lengths [] ys = sym (zero-add (length (joined ys)))
+joined-lengths (x ∷ xs) ys = omega (arith, length-append x (joined (xs ++ ys)), length-append x (joined xs), joined-lengths xs ys)
+
+-- ---- openings that are refused
+
+pub opening-number : (h : ℕ) (salt : List ℕ) → openAnswer h salt .refusal ≡ firstOf ((1 when not (admitted h)) ∷ (2 when noSalt (length salt)) ∷ [])
+unfolding openAnswer openRefusal
+opening-number h salt = refl
+
+pub no-digest-of-0-bits : (salt : List ℕ) → openAnswer 0 salt .session ≡ blank
+unfolding openAnswer openRefusal admitted
+no-digest-of-0-bits salt = refl
+
+-- ---- the session that an opening hands out
 
 module _ (h : ℕ) (salt : List ℕ) (a : admitted h ≡ true) where
   pub opens : length salt ≡ 16 → _≡_ {A = Answer} (openAnswer h salt) (record { refusal = 0; session = opened h salt })
@@ -39,3 +70,9 @@ module _ (h : ℕ) (salt : List ℕ) (a : admitted h ≡ true) where
         sym (read-0 s room true is refl fits),
         sym (left-0 s room true is refl fits (digestOf h salt m ++ drop (h / 8) room) (rw (opened-digest h salt m, bits) refl)),
       )
+
+  pub digest-long : (m : List ℕ) → length (digestOf h salt m) ≡ h / 8
+  digest-long m =
+      let bits = opened-bits h salt m in
+      let most = admitted-most h salt true (sym a) refl in
+      sym (ap length (opened-digest h salt m)) ∙ session-digest-long (addBytes (opened h salt) m) (rw bits most) ∙ ap (λ (n : ℕ). n / 8) bits

@@ -16,7 +16,7 @@ use Rattle.echo.proofs.Laws.Counting.{div-full, div-more, div-on, mod-f
 
 -- ---- the iteration
 
-length-compress : (c r : ℕ) (key : ℕ → List ℕ) (salt v m : List ℕ) → length (compress c r key salt v m) ≡ c
+pub length-compress : (c r : ℕ) (key : ℕ → List ℕ) (salt v m : List ℕ) → length (compress c r key salt v m) ≡ c
 unfolding compress bigFinal
 length-compress c r key salt v m = length-xor c _ _
 
@@ -25,6 +25,12 @@ module _ (c r : ℕ) (salt v : List ℕ) where
   unfolding iterate
   length-iterate blocks counters zero e = e
   length-iterate blocks counters (suc t) e = length-compress c r _ salt _ _
+
+  -- after a turn v does not matter to it
+  pub length-turns : (blocks : ℕ → List ℕ) (counters : ℕ → ℕ) (t : ℕ) → 0 < t → length (iterate c r salt v blocks counters t) ≡ c
+  unfolding iterate
+  length-turns blocks counters zero some = absurd (omega arith)
+  length-turns blocks counters (suc t) some = length-compress c r _ salt _ _
 
   -- blocks and counters count only below the number of turns
   pub iterate-ext : (f g : ℕ → List ℕ) (p q : ℕ → ℕ) (t : ℕ) → ((i : ℕ) → i < t → f i ≡ g i) → ((i : ℕ) → i < t → p i ≡ q i)
@@ -69,6 +75,10 @@ module _ (b : ℕ) (pos : 0 < b) where
   pub blocks-left : (n : ℕ) → n / b + (blockCount b n - n / b) ≡ blockCount b n
   unfolding blockCount
   blocks-left n = omega (arith, div-on b pos n 18)
+
+  pub one-left : (n : ℕ) → 0 < blockCount b n - n / b
+  unfolding blockCount
+  one-left n = omega (arith, div-on b pos n 18)
 
   -- blocks behind the full ones
   pub block-rest : (xs ys : List ℕ) (i : ℕ) → block b (xs ++ ys) (length xs / b + i) ≡ block b (drop (b * (length xs / b)) xs ++ ys) i

@@ -1,0 +1,103 @@
+-- Opening a tag session, by what the code has at each return. Assumes nothing.
+use mathlib.Core.Path.{_≡_, refl, sym, ap, ap₂, _∙_}
+use mathlib.Core.Bool.{Bool, true, false, not}
+use mathlib.Core.List.{List, [], _∷_}
+use Prim.Native.Nat.{ℕ}
+use native.Mathlib.Omega.{arith}
+use borrow.Author.Tests.{eq-eqb, eqb-true}
+use lib.Dec.{eqb, ltb}
+use lib.ListN.{length, replicate, take}
+use Rattle.aes_round.specs.Bytes.{xorBytes}
+use Rattle.echo.specs.declared.session.Answer.{Answer}
+use Rattle.echo.specs.declared.session.Session.{Session}
+use Rattle.echo.specs.Digest.{digestOf}
+use Rattle.echo.specs.Families.{blockSize, either}
+use Rattle.echo.specs.Refusals.{_when_, firstOf}
+use Rattle.echo.specs.Session.{addBytes, admitted, isSession, limit, openAnswer, opened}
+use Rattle.echo.proofs.Laws.Opened.{add-nothing, opened-is-session}
+use Rattle.echo.proofs.Laws.Pieces.{no-digest-of-0-bits, opening-number, opens}
+use Rattle.hmac.specs.declared.key_block.KeyBlock.{KeyBlock}
+use Rattle.hmac.specs.declared.tag_session.TagAnswer.{TagAnswer}
+use Rattle.hmac.specs.declared.tag_session.TagSession.{TagSession}
+use Rattle.hmac.specs.Hmac.{keyBlock}
+use Rattle.hmac.specs.TagSession.{blankTag, openTagAnswer, openTagRefusal, openedTag}
+
+pub blank-is : (salt : List ℕ) (x : Answer) → x ≡ openAnswer 0 salt → _≡_ {A = TagSession} (record { inner = x .session; outer = x .session }) blankTag
+blank-is salt x e =
+    let b = ap (λ (y : Answer). y .session) e ∙ no-digest-of-0-bits salt in ap (λ (s : Session). record { inner = s; outer = s }) b
+
+module _ (h : ℕ) (salt key : List ℕ) (x : Answer) (e : x ≡ openAnswer h salt) where
+  number : (a s : Bool) → admitted h ≡ a → eqb (length salt) 16 ≡ s → x .refusal ≡ firstOf ((1 when not a) ∷ (2 when not s) ∷ [])
+  number a s p q =
+      ap (λ (y : Answer). y .refusal) e ∙ opening-number h salt ∙ ap₂ (λ (b c : Bool). firstOf ((1 when not b) ∷ (2 when not c) ∷ [])) p q
+
+  -- the digest layer refused the opening
+  pub opened-none : (x .refusal ≡ 0 → ⊥) → (t : TagSession) → t ≡ blankTag
+      → _≡_ {A = TagAnswer} (record { refusal = x .refusal; session = t }) (openTagAnswer h salt key)
+  unfolding openTagAnswer openTagRefusal
+  opened-none n t b = by (admitted h) (eqb (length salt) 16) refl refl
+    where
+      by : (a s : Bool) → admitted h ≡ a → eqb (length salt) 16 ≡ s
+          → _≡_ {A = TagAnswer} (record { refusal = x .refusal; session = t }) (openTagAnswer h salt key)
+      by true true p q = absurd (n (number true true p q))
+      by true false p q = rw (number true false p q, p, q, b)
+      by false true p q = rw (number false true p q, p, b)
+      by false false p q = rw (number false false p q, p, b)
+
+  module _ (z : x .refusal ≡ 0) where
+    passed : (admitted h ≡ true) × (length salt ≡ 16)
+    passed = by (admitted h) (eqb (length salt) 16) refl refl
+      where
+        by : (a s : Bool) → admitted h ≡ a → eqb (length salt) 16 ≡ s → (admitted h ≡ true) × (length salt ≡ 16)
+        by true true p q = (p, eqb-true (length salt) 16 q)
+        by true false p q = absurd (omega (arith, z, number true false p q))
+        by false true p q = absurd (omega (arith, z, number false true p q))
+        by false false p q = absurd (omega (arith, z, number false false p q))
+
+    pub bits-pass : admitted h ≡ true
+    bits-pass = passed .0
+
+    pub salt-passes : length salt ≡ 16
+    salt-passes = passed .1
+
+    fresh : x .session ≡ opened h salt
+    fresh = ap (λ (y : Answer). y .session) (e ∙ opens h salt bits-pass salt-passes)
+
+    pub fresh-is-session : isSession (x .session) ≡ true
+    fresh-is-session =
+        ap isSession (fresh ∙ sym (add-nothing (opened h salt))) ∙ opened-is-session h salt [] bits-pass (omega arith)
+
+    pub fresh-is-empty : x .session .taken ≡ 0
+    fresh-is-empty = ap (λ (s : Session). s .taken) fresh
+
+    module _ (k : KeyBlock) (r : k .refusal ≡ either (ltb limit (length key)) 4 0) where
+      pub opened-long : (k .refusal ≡ 0 → ⊥) → (t : TagSession) → t ≡ blankTag
+          → _≡_ {A = TagAnswer} (record { refusal = k .refusal; session = t }) (openTagAnswer h salt key)
+      unfolding openTagAnswer openTagRefusal
+      opened-long n t b = by (ltb limit (length key)) refl
+        where
+          by : (l : Bool) → ltb limit (length key) ≡ l → _≡_ {A = TagAnswer} (record { refusal = k .refusal; session = t }) (openTagAnswer h salt key)
+          by true p = rw (r, bits-pass, eq-eqb (length salt) 16 salt-passes, p, b)
+          by false p = absurd (n (r ∙ ap (λ (l : Bool). either {A = ℕ} l 4 0) p))
+
+      pub opened-keyed : k .refusal ≡ 0
+          → (k .refusal ≡ 0 → take (blockSize h) (k .bytes) ≡ keyBlock (digestOf h salt) (blockSize h) key)
+          → (i o : Session)
+          → i ≡ addBytes (x .session) (xorBytes (blockSize (x .session .bits)) (take (blockSize (x .session .bits)) (k .bytes)) (replicate (blockSize (x .session .bits)) 0x36))
+          → o ≡ addBytes (x .session) (xorBytes (blockSize (x .session .bits)) (take (blockSize (x .session .bits)) (k .bytes)) (replicate (blockSize (x .session .bits)) 0x5c))
+          → _≡_ {A = TagAnswer} (record { refusal = 0; session = record { inner = i; outer = o } }) (openTagAnswer h salt key)
+      unfolding openTagAnswer openTagRefusal openedTag
+      opened-keyed none K i o p q = by (ltb limit (length key)) refl
+        where
+          keyed : (pad : ℕ) (s : Session)
+              → s ≡ addBytes (x .session) (xorBytes (blockSize (x .session .bits)) (take (blockSize (x .session .bits)) (k .bytes)) (replicate (blockSize (x .session .bits)) pad))
+              → s ≡ addBytes (opened h salt) (xorBytes (blockSize h) (keyBlock (digestOf h salt) (blockSize h) key) (replicate (blockSize h) pad))
+          keyed pad s d =
+              d
+              ∙ ap (λ (f : Session). addBytes f (xorBytes (blockSize (f .bits)) (take (blockSize (f .bits)) (k .bytes)) (replicate (blockSize (f .bits)) pad))) fresh
+              ∙ ap (λ (l : List ℕ). addBytes (opened h salt) (xorBytes (blockSize h) l (replicate (blockSize h) pad))) (K none)
+
+          by : (l : Bool) → ltb limit (length key) ≡ l
+              → _≡_ {A = TagAnswer} (record { refusal = 0; session = record { inner = i; outer = o } }) (openTagAnswer h salt key)
+          by true l = absurd (omega (arith, sym none ∙ r ∙ ap (λ (b : Bool). either {A = ℕ} b 4 0) l))
+          by false l = rw (bits-pass, eq-eqb (length salt) 16 salt-passes, l, keyed 0x36 i p, keyed 0x5c o q)

@@ -1,0 +1,227 @@
+-- Laws of the tag session's definitions, over plain records. Assumes nothing.
+use mathlib.Core.Path.{_≡_, refl, sym, ap, ap₂, _∙_}
+use mathlib.Core.Bool.{Bool, true, false, not, _&&_}
+use mathlib.Core.List.{List, _++_}
+use Prim.Native.Nat.{ℕ, _+_, _/_, _<_, _≤_}
+use native.Mathlib.Omega.{arith}
+use borrow.Author.Tests.{eq-eqb, eqb-true, le-leb, le-ltb, leb-true, lt-ltb, ltb-false, ltb-true, ne-eqb, not-false, not-true}
+use lib.Dec.{eqb, leb, ltb}
+use lib.ListN.{drop, length, length-replicate, replicate, take}
+use lib.Seq.{length-take-le, take-at}
+use Rattle.echo.specs.declared.session.Answer.{Answer}
+use Rattle.echo.specs.declared.session.Session.{Session}
+use Rattle.echo.specs.Families.{blockSize}
+use Rattle.echo.specs.Session.{addAnswer, addBytes, isSession, limit, readAnswer, readLeaves, sessionDigest}
+use Rattle.echo.proofs.Laws.Continued.{session-digest-long}
+use Rattle.echo.proofs.Laws.Families.{sizes}
+use Rattle.echo.proofs.Laws.Kept.{add-is-session, add-keeps}
+use Rattle.echo.proofs.Laws.Sessions.{added, added-much, bits-most, both, left-0, left-5, read-0, read-5, taken-most}
+use Rattle.hmac.specs.declared.tag_session.Checking.{Checking}
+use Rattle.hmac.specs.declared.tag_session.TagAnswer.{TagAnswer}
+use Rattle.hmac.specs.declared.tag_session.TagSession.{TagSession}
+use Rattle.hmac.specs.Same.{same}
+use Rattle.hmac.specs.TagSession.{addTagAnswer, addTagBytes, addTagRefusal, checkTagAnswer, checkTagRefusal, closedBy, isTagSession}
+use Rattle.hmac.specs.TagSession.{readTagAnswer, readTagLeaves, readTagRefusal, sessionTag}
+use Rattle.hmac.proofs.Laws.Same.{same-equal, same-self}
+
+-- ---- which records are tag sessions: the answers of is_session, by the tests i, o and s that the code made
+
+module _ (t : TagSession) (i : Bool) (ei : i ≡ isSession (t .inner)) where
+  pub no-inner : not i ≡ true → false ≡ isTagSession t
+  unfolding isTagSession
+  no-inner fails = rw (← ei, not-true i fails)
+
+  module _ (inner : not i ≡ false) (o : Bool) (eo : o ≡ isSession (t .outer)) where
+    pub no-outer : not o ≡ true → false ≡ isTagSession t
+    unfolding isTagSession
+    no-outer fails = rw (← ei, not-false i inner, ← eo, not-true o fails)
+
+    module _ (outer : not o ≡ false) where
+      pub other-bits : (t .inner .bits ≡ t .outer .bits → ⊥) → false ≡ isTagSession t
+      unfolding isTagSession
+      other-bits n = rw (← ei, not-false i inner, ← eo, not-false o outer, ne-eqb _ _ n)
+
+      module _ (bits : t .inner .bits ≡ t .outer .bits) (s : Bool) (es : s ≡ same (t .inner .salt) (t .outer .salt)) where
+        pub other-salt : not s ≡ true → false ≡ isTagSession t
+        unfolding isTagSession
+        other-salt fails = rw (← ei, not-false i inner, ← eo, not-false o outer, eq-eqb _ _ bits, ← es, not-true s fails)
+
+        module _ (salt : not s ≡ false) (b : ℕ) (size : b ≡ blockSize (t .outer .bits)) where
+          pub other-count : (t .outer .taken ≡ b → ⊥) → false ≡ isTagSession t
+          unfolding isTagSession
+          other-count n =
+              rw (← ei, not-false i inner, ← eo, not-false o outer, eq-eqb _ _ bits, ← es, not-false s salt, ← size, ne-eqb (t .outer .taken) b n)
+
+          pub right-count : t .outer .taken ≡ b → leb b (t .inner .taken) ≡ isTagSession t
+          unfolding isTagSession
+          right-count e =
+              rw (← ei, not-false i inner, ← eo, not-false o outer, eq-eqb _ _ bits, ← es, not-false s salt, ← size, eq-eqb (t .outer .taken) b e)
+
+pub record TagFits (t : TagSession) : Type 0 where
+  pub inner-is : isSession (t .inner) ≡ true
+  pub outer-is : isSession (t .outer) ≡ true
+  pub one-length : t .inner .bits ≡ t .outer .bits
+  pub one-salt : t .inner .salt ≡ t .outer .salt
+  pub outer-block : t .outer .taken ≡ blockSize (t .outer .bits)
+  pub inner-more : blockSize (t .outer .bits) ≤ t .inner .taken
+
+pub tag-fits : (t : TagSession) → isTagSession t ≡ true → TagFits t
+unfolding isTagSession
+tag-fits t e =
+    let p = both (isSession (t .inner)) _ e in
+    let q = both (isSession (t .outer)) _ (p .1) in
+    let r = both (eqb (t .inner .bits) (t .outer .bits)) _ (q .1) in
+    let s = both (same (t .inner .salt) (t .outer .salt)) _ (r .1) in
+    let u = both (eqb (t .outer .taken) (blockSize (t .outer .bits))) _ (s .1) in
+    record {
+      inner-is = p .0;
+      outer-is = q .0;
+      one-length = eqb-true _ _ (r .0);
+      one-salt = same-equal _ _ (s .0);
+      outer-block = eqb-true _ _ (u .0);
+      inner-more = leb-true _ _ (u .1);
+    }
+
+pub fits-tag : (t : TagSession) → TagFits t → isTagSession t ≡ true
+fits-tag t F =
+    sym (right-count t true (sym (F .inner-is)) refl true (sym (F .outer-is)) refl (F .one-length) true
+    (sym (ap (same (t .inner .salt)) (sym (F .one-salt)) ∙ same-self (t .inner .salt))) refl _ refl (F .outer-block))
+    ∙ le-leb _ _ (F .inner-more)
+
+-- ---- adding
+
+module _ (t : TagSession) (piece : List ℕ) (a : Bool) (e : a ≡ isTagSession t) where
+  pub added-to-none : not a ≡ true → _≡_ {A = TagAnswer} (record { refusal = 3; session = t }) (addTagAnswer t piece)
+  unfolding addTagAnswer addTagRefusal
+  added-to-none fails = rw (← e, not-true a fails)
+
+  pub added-to-inner : not a ≡ false → (x : Answer) → x ≡ addAnswer (t .inner) piece
+      → _≡_ {A = TagAnswer} (record { refusal = x .refusal; session = record { inner = x .session; outer = t .outer } }) (addTagAnswer t piece)
+  unfolding addTagAnswer addTagRefusal addTagBytes
+  added-to-inner holds x d = by (ltb limit (t .inner .taken + length piece)) refl
+    where
+      is : true ≡ isSession (t .inner)
+      is = sym (tag-fits t (sym e ∙ not-false a holds) .inner-is)
+
+      few : t .inner .taken ≤ limit
+      few = taken-most (t .inner) true is refl
+
+      by : (b : Bool) → ltb limit (t .inner .taken + length piece) ≡ b
+          → _≡_ {A = TagAnswer} (record { refusal = x .refusal; session = record { inner = x .session; outer = t .outer } }) (addTagAnswer t piece)
+      by true p =
+          rw (← e, not-false a holds, p, d, ← added-much (t .inner) piece true is refl (omega (arith, few, ltb-true limit (t .inner .taken + length piece) p)))
+      by false p =
+          rw (← e, not-false a holds, p, d, ← added (t .inner) piece true is refl _ refl (omega (arith, few, ltb-false limit (t .inner .taken + length piece) p)))
+
+-- ---- the outer session with the digest of the inner one
+
+-- a digest that was read into 64 bytes
+digest-read : (s : Session) → isSession s ≡ true → take (s .bits / 8) (readLeaves s (replicate 64 0)) ≡ sessionDigest s
+digest-read s is =
+    let most = bits-most s true (sym is) refl in
+    ap (take (s .bits / 8)) (sym (left-0 s (replicate 64 0) true (sym is) refl (omega (arith, most)) _ refl))
+    ∙ take-at (sessionDigest s) _ (s .bits / 8) (session-digest-long s most)
+
+module _ (t : TagSession) (is : isTagSession t ≡ true) where
+  fits : TagFits t
+  fits = tag-fits t is
+
+  most : t .inner .bits ≤ 512
+  most = bits-most (t .inner) true (sym (fits .inner-is)) refl
+
+  -- the digest is read into 64 bytes
+  pub inner-digest-within : (d : List ℕ) → length d ≡ 64 → t .inner .bits / 8 ≤ length d
+  inner-digest-within d l = omega (arith, most)
+
+  pub inner-digest-count : (d : List ℕ) → length d ≡ 64 → t .inner .bits / 8 ≡ length (take (t .inner .bits / 8) d)
+  inner-digest-count d l = sym (length-take-le (t .inner .bits / 8) d (inner-digest-within d l))
+
+  inner-digest-long : length (sessionDigest (t .inner)) ≡ t .inner .bits / 8
+  inner-digest-long = session-digest-long (t .inner) most
+
+  outer-room : t .outer .taken + length (sessionDigest (t .inner)) ≤ limit
+  outer-room = let S = sizes (t .outer .bits) in omega (arith, most, inner-digest-long, fits .outer-block)
+
+  pub closes : (d : List ℕ) → d ≡ readLeaves (t .inner) (replicate 64 0) → (x : Answer) → x ≡ addAnswer (t .outer) (take (t .inner .bits / 8) d)
+      → x .session ≡ closedBy t
+  unfolding closedBy
+  closes d e x y =
+      ap (λ (z : Answer). z .session)
+      (y
+      ∙ ap (λ (l : List ℕ). addAnswer (t .outer) (take (t .inner .bits / 8) l)) e
+      ∙ ap (addAnswer (t .outer)) (digest-read (t .inner) (fits .inner-is))
+      ∙ sym (added (t .outer) (sessionDigest (t .inner)) true (sym (fits .outer-is)) refl _ refl (omega (arith, outer-room))))
+
+  pub closed-bits : closedBy t .bits ≡ t .outer .bits
+  unfolding closedBy
+  closed-bits = add-keeps (t .outer) (sessionDigest (t .inner)) .0
+
+  pub closed-is-session : isSession (closedBy t) ≡ true
+  unfolding closedBy
+  closed-is-session = add-is-session (t .outer) (sessionDigest (t .inner)) (fits .outer-is) outer-room
+
+-- ---- reading and checking
+
+module _ (t : TagSession) (room : List ℕ) (a : Bool) (e : a ≡ isTagSession t) where
+  pub read-none : not a ≡ true → _≡_ {A = TagAnswer} (record { refusal = 3; session = t }) (readTagAnswer t (length room))
+  unfolding readTagAnswer readTagRefusal
+  read-none fails = rw (← e, not-true a fails)
+
+  pub left-none : not a ≡ true → room ≡ readTagLeaves t room
+  unfolding readTagLeaves readTagRefusal
+  left-none fails = rw (← e, not-true a fails)
+
+  pub checked-none : not a ≡ true → _≡_ {A = Checking} (record { refusal = 3; yes = false; session = t }) (checkTagAnswer t room)
+  unfolding checkTagAnswer checkTagRefusal
+  checked-none fails = rw (← e, not-true a fails)
+
+-- c is the outer session with the digest of the inner one, of a record that the code found to be a tag session by the test a
+module _ (t : TagSession) (a : Bool) (e : a ≡ isTagSession t) (holds : not a ≡ false) where
+  pub is-tag : isTagSession t ≡ true
+  is-tag = sym e ∙ not-false a holds
+
+  module _ (c : Session) (d : c ≡ closedBy t) where
+    is : isSession c ≡ true
+    is = ap isSession d ∙ closed-is-session t is-tag
+
+    size : c .bits / 8 ≡ t .outer .bits / 8
+    size = ap (λ (s : Session). s .bits / 8) d ∙ ap (λ (n : ℕ). n / 8) (closed-bits t is-tag)
+
+    module _ (room : List ℕ) where
+      pub read-closed : (x : Answer) → x ≡ readAnswer c (length room)
+          → _≡_ {A = TagAnswer} (record { refusal = x .refusal; session = t }) (readTagAnswer t (length room))
+      unfolding readTagAnswer readTagRefusal
+      read-closed x r = by (ltb (length room) (t .outer .bits / 8)) refl
+        where
+          by : (b : Bool) → ltb (length room) (t .outer .bits / 8) ≡ b
+              → _≡_ {A = TagAnswer} (record { refusal = x .refusal; session = t }) (readTagAnswer t (length room))
+          by true p =
+              rw (is-tag, p, r, ← read-5 c room true (sym is) refl (omega (arith, size, ltb-true (length room) (t .outer .bits / 8) p)))
+          by false p =
+              rw (is-tag, p, r, ← read-0 c room true (sym is) refl (omega (arith, size, ltb-false (length room) (t .outer .bits / 8) p)))
+
+      pub left-closed : (u : List ℕ) → u ≡ readLeaves c room → u ≡ readTagLeaves t room
+      unfolding readTagLeaves readTagRefusal sessionTag
+      left-closed u l = by (ltb (length room) (t .outer .bits / 8)) refl
+        where
+          by : (b : Bool) → ltb (length room) (t .outer .bits / 8) ≡ b → u ≡ readTagLeaves t room
+          by true p =
+              rw (is-tag, p) (l ∙ sym (left-5 c room true (sym is) refl (omega (arith, size, ltb-true (length room) (t .outer .bits / 8) p))))
+          by false p =
+              rw (is-tag, p)
+              (l
+              ∙ sym (left-0 c room true (sym is) refl (omega (arith, size, ltb-false (length room) (t .outer .bits / 8) p)) _ refl)
+              ∙ ap₂ (λ (s : Session) (n : ℕ). sessionDigest s ++ drop n room) d size)
+
+    -- the tag is read into 64 bytes
+    pub own-tag-within : (own : List ℕ) → length own ≡ 64 → c .bits / 8 ≤ length own
+    own-tag-within own l = omega (arith, bits-most c true (sym is) refl)
+
+    pub own-tag-count : (own : List ℕ) → length own ≡ 64 → c .bits / 8 ≡ length (take (c .bits / 8) own)
+    own-tag-count own l = sym (length-take-le (c .bits / 8) own (own-tag-within own l))
+
+    pub checked-closed : (own tag : List ℕ) → own ≡ readLeaves c (replicate 64 0) → (says : Bool) → says ≡ same (take (c .bits / 8) own) tag
+        → _≡_ {A = Checking} (record { refusal = 0; yes = says; session = t }) (checkTagAnswer t tag)
+    unfolding checkTagAnswer checkTagRefusal sessionTag
+    checked-closed own tag l says y =
+        rw (is-tag, y, ap (take (c .bits / 8)) l, digest-read c is, d)

@@ -1,0 +1,165 @@
+-- The theorems of this crate that the pages quote, each closed: what it assumes stands in its statement. Assumes nothing.
+use mathlib.Core.Path.{_≡_}
+use mathlib.Core.Bool.{false, true}
+use mathlib.Core.Logic.{_↔_}
+use mathlib.Core.List.{List, [], _∷_, _++_}
+use Prim.Native.Nat.{ℕ, suc, _+_, _/_, _≤_}
+use lib.ListN.{drop, length}
+use Rattle.echo.specs.Digest.{digestOf}
+use Rattle.echo.specs.Families.{blockSize}
+use Rattle.echo.specs.Pieces.{joined}
+use Rattle.echo.specs.Session.{addBytes, admitted, isSession, limit, sessionDigest}
+use Rattle.hmac.specs.declared.tag_session.TagSession.{TagSession}
+use Rattle.hmac.specs.Hmac.{keyBlock, tagOf}
+use Rattle.hmac.specs.Routines.{checkAnswer, checkRefusal, makeLeaves, makeRefusal}
+use Rattle.hmac.specs.TagPieces.{addAllTag}
+use Rattle.hmac.specs.TagSession.{
+  addTagAnswer,
+  addTagBytes,
+  addTagRefusal,
+  blankTag,
+  checkTagAnswer,
+  checkTagRefusal,
+  isTagSession,
+  openTagAnswer,
+  openTagRefusal,
+  openedTag,
+  readTagAnswer,
+  readTagLeaves,
+  readTagRefusal,
+}
+use Rattle.hmac.proofs.ARefusalChangesNothing as refusing
+use Rattle.hmac.proofs.TheTag as tag
+
+-- ---- a refusal, whose number is k + 1, changes nothing
+
+pub a-refused-tag-opening-is-blank : (k h : ℕ) (salt key : List ℕ)
+    → openTagRefusal h (length salt) (length key) ≡ suc k
+    → openTagAnswer h salt key .session ≡ blankTag
+a-refused-tag-opening-is-blank = refusing.a-refused-opening-is-blank
+
+pub the-blank-record-is-no-tag-session : isTagSession blankTag ≡ false
+the-blank-record-is-no-tag-session = refusing.the-blank-record-is-none
+
+pub a-refused-piece-of-a-tag-changes-nothing : (k : ℕ) (t : TagSession) (piece : List ℕ)
+    → addTagRefusal t (length piece) ≡ suc k
+    → addTagAnswer t piece .session ≡ t
+a-refused-piece-of-a-tag-changes-nothing = refusing.a-refused-piece-changes-nothing
+
+pub a-refused-tag-leaves-the-room : (k : ℕ) (t : TagSession) (room : List ℕ) → readTagRefusal t (length room) ≡ suc k → readTagLeaves t room ≡ room
+a-refused-tag-leaves-the-room = refusing.a-refused-reading-leaves-the-room
+
+pub reading-a-tag-changes-nothing : (t : TagSession) (room : ℕ) → readTagAnswer t room .session ≡ t
+reading-a-tag-changes-nothing = refusing.reading-changes-nothing
+
+pub checking-a-tag-changes-nothing : (t : TagSession) (tag : List ℕ) → checkTagAnswer t tag .session ≡ t
+checking-a-tag-changes-nothing = refusing.checking-changes-nothing
+
+pub a-refused-check-says-no : (k : ℕ) (t : TagSession) (tag : List ℕ) → checkTagRefusal t ≡ suc k → checkTagAnswer t tag .yes ≡ false
+a-refused-check-says-no = refusing.a-refused-check-says-no
+
+pub a-refused-tag-at-once-leaves-the-room : (k h : ℕ) (salt key message room : List ℕ)
+    → makeRefusal h (length salt) (length key) (length message) (length room) ≡ suc k
+    → makeLeaves h salt key message room ≡ room
+a-refused-tag-at-once-leaves-the-room = refusing.a-refused-making-leaves-the-room
+
+pub a-refused-check-at-once-says-no : (k h : ℕ) (salt key message tag : List ℕ)
+    → checkRefusal h (length salt) (length key) (length message) ≡ suc k
+    → checkAnswer h salt key message tag .yes ≡ false
+a-refused-check-at-once-says-no = refusing.a-refused-check-at-once-says-no
+
+-- ---- the tag is the standard's
+
+pub however-cut-the-tag-is-the-standards : (h : ℕ) (salt key : List ℕ) (pieces : List (List ℕ)) (room : List ℕ)
+    → admitted h ≡ true
+    → length salt ≡ 16
+    → length key ≤ limit
+    → blockSize h + length (joined pieces) ≤ limit
+    → h / 8 ≤ length room
+    → (readTagAnswer (addAllTag (openTagAnswer h salt key .session) pieces) (length room) .refusal ≡ 0)
+    × (readTagLeaves (addAllTag (openTagAnswer h salt key .session) pieces) room ≡ tagOf h salt key (joined pieces) ++ drop (h / 8) room)
+however-cut-the-tag-is-the-standards h salt key pieces room a l k f = tag.however-cut-the-tag-is-the-standards h salt key a l k pieces f room
+
+pub however-cut-a-check-says-yes-exactly-for-the-tag : (h : ℕ) (salt key : List ℕ) (pieces : List (List ℕ)) (tag : List ℕ)
+    → admitted h ≡ true
+    → length salt ≡ 16
+    → length key ≤ limit
+    → blockSize h + length (joined pieces) ≤ limit
+    → (checkTagAnswer (addAllTag (openTagAnswer h salt key .session) pieces) tag .refusal ≡ 0)
+    × ((checkTagAnswer (addAllTag (openTagAnswer h salt key .session) pieces) tag .yes ≡ true) ↔ (tag ≡ tagOf h salt key (joined pieces)))
+however-cut-a-check-says-yes-exactly-for-the-tag h salt key pieces x a l k f = tag.however-cut-a-check-says-yes-exactly-for-the-tag h salt key a l k pieces f x
+
+pub every-piece-of-a-tag-is-taken : (h : ℕ) (salt key : List ℕ) (before : List (List ℕ)) (piece : List ℕ) (after : List (List ℕ))
+    → admitted h ≡ true
+    → length salt ≡ 16
+    → length key ≤ limit
+    → blockSize h + length (joined (before ++ piece ∷ after)) ≤ limit
+    → addTagAnswer (addAllTag (openTagAnswer h salt key .session) before) piece .refusal ≡ 0
+every-piece-of-a-tag-is-taken h salt key before piece after a l k f = tag.every-piece-is-taken h salt key a l k before piece after f
+
+pub a-tag-opening-is-taken : (h : ℕ) (salt key : List ℕ)
+    → admitted h ≡ true
+    → length salt ≡ 16
+    → length key ≤ limit
+    → openTagAnswer h salt key ≡ record { refusal = 0; session = openedTag h salt key }
+a-tag-opening-is-taken = tag.an-opening-opens
+
+pub a-piece-of-a-tag-is-joined : (h : ℕ) (salt key m piece : List ℕ)
+    → admitted h ≡ true
+    → length salt ≡ 16
+    → length key ≤ limit
+    → blockSize h + length (m ++ piece) ≤ limit
+    → addTagAnswer (addTagBytes (openedTag h salt key) m) piece ≡ record { refusal = 0; session = addTagBytes (openedTag h salt key) (m ++ piece) }
+a-piece-of-a-tag-is-joined h salt key m piece a l k f = tag.a-piece-is-joined h salt key a l k m piece f
+
+pub an-empty-piece-of-a-tag-changes-nothing : (t : TagSession) → addTagAnswer t [] .session ≡ t
+an-empty-piece-of-a-tag-changes-nothing = tag.an-empty-piece-changes-nothing
+
+pub at-once-is-the-tag : (h : ℕ) (salt key message room : List ℕ)
+    → admitted h ≡ true
+    → length salt ≡ 16
+    → length key ≤ limit
+    → blockSize h + length message ≤ limit
+    → h / 8 ≤ length room
+    → (makeRefusal h (length salt) (length key) (length message) (length room) ≡ 0)
+    × (makeLeaves h salt key message room ≡ tagOf h salt key message ++ drop (h / 8) room)
+at-once-is-the-tag h salt key message room a l k f = tag.at-once-is-the-tag h salt key a l k message f room
+
+pub at-once-a-check-says-yes-exactly-for-the-tag : (h : ℕ) (salt key message tag : List ℕ)
+    → admitted h ≡ true
+    → length salt ≡ 16
+    → length key ≤ limit
+    → blockSize h + length message ≤ limit
+    → (checkAnswer h salt key message tag .refusal ≡ 0)
+    × ((checkAnswer h salt key message tag .yes ≡ true) ↔ (tag ≡ tagOf h salt key message))
+at-once-a-check-says-yes-exactly-for-the-tag h salt key message x a l k f = tag.at-once-a-check-says-yes-exactly-for-the-tag h salt key a l k message f x
+
+-- K0 is one block
+pub the-key-block-is-a-block : (h : ℕ) (salt key : List ℕ)
+    → admitted h ≡ true
+    → length (keyBlock (digestOf h salt) (blockSize h) key) ≡ blockSize h
+the-key-block-is-a-block = tag.the-key-block-is-a-block
+
+-- ---- any record
+
+pub tag-sessions-exactly : (t : TagSession)
+    → (isTagSession t ≡ true)
+    ↔ ((isSession (t .inner) ≡ true)
+    × (isSession (t .outer) ≡ true)
+    × (t .inner .bits ≡ t .outer .bits)
+    × (t .inner .salt ≡ t .outer .salt)
+    × (t .outer .taken ≡ blockSize (t .outer .bits))
+    × (blockSize (t .outer .bits) ≤ t .inner .taken))
+tag-sessions-exactly = tag.tag-sessions-exactly
+
+-- any record that is a tag session, whether an opening made it or not
+pub every-tag-session-is-answered-by-its-two-sessions : (t : TagSession) (piece room : List ℕ)
+    → isTagSession t ≡ true
+    → t .inner .taken + length piece ≤ limit
+    → t .outer .bits / 8 ≤ length room
+    → (addTagAnswer t piece .refusal ≡ 0)
+    × (isTagSession (addTagAnswer t piece .session) ≡ true)
+    × (readTagAnswer (addTagAnswer t piece .session) (length room) .refusal ≡ 0)
+    × (readTagLeaves (addTagAnswer t piece .session) room
+    ≡ sessionDigest (addBytes (t .outer) (sessionDigest (addBytes (t .inner) piece))) ++ drop (t .outer .bits / 8) room)
+every-tag-session-is-answered-by-its-two-sessions t piece room is f = tag.every-tag-session-is-answered-by-its-two-sessions t is piece f room

@@ -1,0 +1,190 @@
+// Tag sessions: a tag over the pieces of a message.
+ghost use mathlib.Core.Bool.{true};
+ghost use mathlib.Core.Path.{_≡_};
+ghost use lib.ListN.{length};
+ghost use Rattle.hmac.specs.TagSession.{addTagAnswer, blankTag, checkTagAnswer, closedBy, isTagSession, openTagAnswer, readTagAnswer, readTagLeaves};
+use super::key_block::block_size;
+use super::key_block::key_block;
+use super::key_block::keyed;
+use super::same::same;
+use echo::Session;
+
+// A tag that is under way. It is passed by value, and each call hands it back.
+pub struct TagSession {
+    // the digest of K0 xored with ipad, and of the message so far
+    pub inner: Session,
+    // the digest of K0 xored with opad
+    pub outer: Session,
+}
+
+// What a call answers: a refusal number, 0 for none, and the session.
+pub struct TagAnswer {
+    pub refusal: u8,
+    pub session: TagSession,
+}
+
+// What a check answers: a refusal number, 0 for none, whether the tag is right, and the session.
+pub struct Checking {
+    pub refusal: u8,
+    pub yes: bool,
+    pub session: TagSession,
+}
+
+impl TagSession {
+    // Two blank sessions, and no tag session. A refused opening hands a blank one out, and no digest has 0 bits.
+    fn blank() -> Self
+        ensures { λ r. ⌜ r ≡ blankTag ⌝ }
+    {
+        let refused = Session::open(0, b"");
+        let none = refused.session;
+        TagSession {
+            inner: none,
+            outer: none,
+        }
+    }
+
+    // A session for tags of so many bits under a salt and a key; or the blank one with 1 (bits not admitted), 2 (salt not 16 bytes) or 4 (key
+    // too long).
+    pub fn open(bits: u64, salt: &[u8], key: &[u8]) -> TagAnswer
+        ensures { λ r. ⌜ r ≡ openTagAnswer bits (now (salt .entry)) (now (key .entry)) ⌝ }
+    {
+        let opening = Session::open(bits, salt);
+        let refused = opening.refusal;
+        if refused != 0 {
+            let none = TagSession::blank();
+            return TagAnswer {
+                refusal: refused,
+                session: none,
+            };
+        }
+        let k0 = key_block(bits, salt, key);
+        let too_long = k0.refusal;
+        if too_long != 0 {
+            let none = TagSession::blank();
+            return TagAnswer {
+                refusal: too_long,
+                session: none,
+            };
+        }
+        let fresh = opening.session;
+        let block = k0.bytes;
+        let inner = keyed(fresh, block, 0x36);
+        let outer = keyed(fresh, block, 0x5c);
+        let opened = TagSession {
+            inner: inner,
+            outer: outer,
+        };
+        TagAnswer {
+            refusal: 0,
+            session: opened,
+        }
+    }
+
+    // Whether the record is a tag session.
+    pub fn is_session(self) -> bool
+        ensures { λ r. ⌜ r ≡ isTagSession self ⌝ }
+    {
+        let inner = self.inner;
+        if !inner.is_session() {
+            return false;
+        }
+        let outer = self.outer;
+        if !outer.is_session() {
+            return false;
+        }
+        if inner.bits != outer.bits {
+            return false;
+        }
+        let salt = inner.salt;
+        let outer_salt = outer.salt;
+        if !same(&salt, &outer_salt) {
+            return false;
+        }
+        let b = block_size(outer.bits) as u64;
+        if outer.taken != b {
+            return false;
+        }
+        b <= inner.taken
+    }
+
+    // The session with the piece joined to its message, or the same with 3 (no tag session) or 4 (too long).
+    pub fn add(self, piece: &[u8]) -> TagAnswer
+        ensures { λ r. ⌜ r ≡ addTagAnswer self (now (piece .entry)) ⌝ }
+    {
+        if !self.is_session() {
+            return TagAnswer {
+                refusal: 3,
+                session: self,
+            };
+        }
+        let inner = self.inner;
+        let outer = self.outer;
+        let adding = inner.add(piece);
+        let added = adding.session;
+        TagAnswer {
+            refusal: adding.refusal,
+            session: TagSession {
+                inner: added,
+                outer: outer,
+            },
+        }
+    }
+
+    // The outer session with the digest of the inner one.
+    fn closed(self) -> Session
+        requires { ⌜ isTagSession self ≡ true ⌝ }
+        ensures { λ r. ⌜ r ≡ closedBy self ⌝ }
+    {
+        let inner = self.inner;
+        let outer = self.outer;
+        let n = (inner.bits / 8) as usize;
+        let mut digest = [0u8; 64];
+        inner.read(&mut digest);
+        let adding = outer.add(&digest[..n]);
+        adding.session
+    }
+
+    // The tag of the message so far, at the front of `out`, whose bytes behind it stay; or 3 (no tag session) or 5 (too little room) and
+    // nothing written. The session is handed back as it came.
+    pub fn read(self, out: &mut [u8]) -> TagAnswer
+        ensures answer { λ r. ⌜ r ≡ readTagAnswer self (length (now (out .entry))) ⌝ }
+        ensures left { λ _. ⌜ now (out .exit) ≡ readTagLeaves self (now (out .entry)) ⌝ }
+    {
+        if !self.is_session() {
+            return TagAnswer {
+                refusal: 3,
+                session: self,
+            };
+        }
+        let closed = self.closed();
+        let reading = closed.read(out);
+        TagAnswer {
+            refusal: reading.refusal,
+            session: self,
+        }
+    }
+
+    // Whether the tag is that of the message so far, all of it and nothing else; or no with 3 (no tag session). The session is handed back as
+    // it came.
+    pub fn check(self, tag: &[u8]) -> Checking
+        ensures { λ r. ⌜ r ≡ checkTagAnswer self (now (tag .entry)) ⌝ }
+    {
+        if !self.is_session() {
+            return Checking {
+                refusal: 3,
+                yes: false,
+                session: self,
+            };
+        }
+        let closed = self.closed();
+        let n = (closed.bits / 8) as usize;
+        let mut own = [0u8; 64];
+        closed.read(&mut own);
+        let yes = same(&own[..n], tag);
+        Checking {
+            refusal: 0,
+            yes: yes,
+            session: self,
+        }
+    }
+}

@@ -36,6 +36,50 @@ pub fn digest_refusal(bits: u64, salt: usize, message: u64, room: usize) -> u8 {
     }
 }
 
+/// The tag of `bits` bits under a key, into the first bits / 8 bytes of `out`;
+/// those behind them stay. Refusals 1, 2, 4, 5.
+pub fn hmac(bits: u64, salt: &[u8], key: &[u8], message: &[u8], out: &mut [u8]) -> u8 {
+    let sizes = (key.len() as u64, message.len() as u64);
+    let refused = hmac_refusal(bits, salt.len(), sizes, out.len());
+    if refused == refusal::NONE {
+        let tag = crate::hmac::hmac(bits, &word(salt), key, message);
+        out[..tag.len()].copy_from_slice(&tag);
+    }
+    refused
+}
+
+/// Whether bytes are the tag that [`hmac`] gives, all of it; a refusal says no.
+/// Refusals 1, 2, 4.
+pub fn hmac_check(bits: u64, salt: &[u8], key: &[u8], message: &[u8], tag: &[u8]) -> (u8, bool) {
+    let sizes = (key.len() as u64, message.len() as u64);
+    let refused = hmac_check_refusal(bits, salt.len(), sizes);
+    let yes = refused == refusal::NONE && tag == crate::hmac::hmac(bits, &word(salt), key, message);
+    (refused, yes)
+}
+
+/// The answer of [`hmac`] by the sizes alone, those of key and message together.
+pub fn hmac_refusal(bits: u64, salt: usize, sizes: (u64, u64), room: usize) -> u8 {
+    match hmac_check_refusal(bits, salt, sizes) {
+        refusal::NONE if room < bits as usize / 8 => refusal::ROOM,
+        refused => refused,
+    }
+}
+
+/// The number that [`hmac_check`] answers by the sizes alone.
+pub fn hmac_check_refusal(bits: u64, salt: usize, (key, message): (u64, u64)) -> u8 {
+    if !family::admitted(bits) {
+        return refusal::DIGEST_LENGTH;
+    }
+    if salt != 16 {
+        return refusal::SALT;
+    }
+    let block = family::of_bits(bits).block as u64;
+    if key > MESSAGE_LIMIT || message > MESSAGE_LIMIT - block {
+        return refusal::MESSAGE;
+    }
+    refusal::NONE
+}
+
 /// Rounds forward over a lent square. Refusals 2, 6, 7.
 pub fn rounds(lent: &mut [u8], count: u64, counter: u64, salt: &[u8]) -> u8 {
     on_square(lent, count, counter, salt, square::rounds)

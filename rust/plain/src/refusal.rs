@@ -7,9 +7,10 @@ pub const NONE: u8 = 0;
 pub const DIGEST_LENGTH: u8 = 1;
 /// The salt is not 16 bytes.
 pub const SALT: u8 = 2;
-/// The record handed over is no session.
+/// The record handed over is no session, or no tag session.
 pub const SESSION: u8 = 3;
-/// The message is over [`MESSAGE_LIMIT`].
+/// The message is over [`MESSAGE_LIMIT`], or a key is, or a key's block and the
+/// message together.
 pub const MESSAGE: u8 = 4;
 /// The room for the output is too small.
 pub const ROOM: u8 = 5;

@@ -39,6 +39,87 @@ fn digest_refuses_messages_that_no_memory_holds() {
 }
 
 #[test]
+fn a_tag_fills_only_its_room() {
+    let mut out = [0xee; 40];
+    assert_eq!(hmac(264, &SALT, b"key", b"abc", &mut out), 0);
+    assert_eq!(out[..33], crate::hmac::hmac(264, &SALT, b"key", b"abc"));
+    assert_eq!(out[33..], [0xee; 7]);
+}
+
+#[test]
+fn tags_refuse_the_lowest_number_and_write_nothing() {
+    let mut out = [0xee; 32];
+    for (bits, salt, room, number) in [
+        (0, 16, 32, 1),
+        (120, 0, 0, 1),
+        (520, 17, 32, 1),
+        (256, 15, 0, 2),
+        (256, 17, 32, 2),
+        (256, 16, 31, 5),
+        (264, 16, 32, 5),
+    ] {
+        let salt = &[9; 17][..salt];
+        let refused = hmac(bits, salt, b"key", b"abc", &mut out[..room]);
+        assert_eq!(refused, number);
+        // A check has no room, and takes bytes of any length.
+        let checked = hmac_check(bits, salt, b"key", b"abc", &out[..room]);
+        let number = if number == 5 { 0 } else { number };
+        assert_eq!(checked, (number, false));
+    }
+    assert_eq!(out, [0xee; 32]);
+}
+
+/// Key and message each at the limit, with the key's block before the message.
+#[test]
+fn tags_refuse_keys_and_messages_that_no_memory_holds() {
+    let limit = (1 << 61) - 21;
+    for (bits, block) in [(128, 192), (256, 192), (264, 128), (512, 128)] {
+        for (sizes, number) in [
+            ((0, limit - block), 0),
+            ((0, limit - block + 1), 4),
+            ((0, limit), 4),
+            ((0, u64::MAX), 4),
+            ((limit, 0), 0),
+            ((limit, limit - block), 0),
+            ((limit + 1, 0), 4),
+            ((u64::MAX, u64::MAX), 4),
+        ] {
+            assert_eq!(hmac_check_refusal(bits, 16, sizes), number);
+            assert_eq!(hmac_refusal(bits, 16, sizes, 64), number);
+        }
+    }
+    let far = (u64::MAX, u64::MAX);
+    assert_eq!(hmac_refusal(256, 16, far, 31), 4);
+    assert_eq!(hmac_refusal(256, 15, far, 31), 2);
+    assert_eq!(hmac_refusal(100, 15, far, 31), 1);
+    assert_eq!(hmac_refusal(256, 16, (0, 0), 31), 5);
+}
+
+#[test]
+fn a_check_says_yes_to_the_whole_tag_alone() {
+    for bits in [128, 264] {
+        let check = |key: &[u8], message: &[u8], tag: &[u8]| {
+            let (number, yes) = hmac_check(bits, &SALT, key, message, tag);
+            assert_eq!(number, 0);
+            yes
+        };
+        let tag = crate::hmac::hmac(bits, &SALT, b"key", b"abc");
+        assert!(check(b"key", b"abc", &tag));
+        assert!(!check(b"kez", b"abc", &tag));
+        assert!(!check(b"key", b"abd", &tag));
+        assert!(!check(b"key", b"abc", &tag[1..]));
+        assert!(!check(b"key", b"abc", &tag[..tag.len() - 1]));
+        assert!(!check(b"key", b"abc", &[&tag[..], &[0]].concat()));
+        assert!(!check(b"key", b"abc", b""));
+        for bit in 0..8 * tag.len() {
+            let mut wrong = tag.clone();
+            wrong[bit / 8] ^= 1 << (bit % 8);
+            assert!(!check(b"key", b"abc", &wrong));
+        }
+    }
+}
+
+#[test]
 fn rounds_refuse_the_lowest_number_and_write_nothing() {
     let mut lent = [0xee; 257];
     for (size, count, counter, salt, number) in [

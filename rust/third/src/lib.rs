@@ -6,6 +6,7 @@
 
 #[cfg(any(target_arch = "x86_64", target_arch = "aarch64"))]
 mod by_instruction;
+mod hmac;
 #[cfg(any(target_arch = "x86_64", target_arch = "aarch64"))]
 mod message;
 #[cfg(any(target_arch = "x86_64", target_arch = "aarch64"))]
@@ -57,4 +58,11 @@ pub fn digest(bits: u64, salt: &Word, message: &[u8]) -> Option<Vec<u8>> {
         "no digest has {bits} bits"
     );
     by_instruction::digest(bits, salt, message)
+}
+
+/// The tag of `bits` bits under a key; none where the processor has no such
+/// instruction. Panics unless the digest length is a multiple of 8 from 128 to
+/// 512.
+pub fn hmac(bits: u64, salt: &Word, key: &[u8], message: &[u8]) -> Option<Vec<u8>> {
+    hmac::hmac(bits, salt, key, message)
 }

@@ -105,6 +105,31 @@ fn agrees(bits: u64, generator: &mut Generator, length: usize) {
     }
 }
 
+/// Keys at both sides of a block's length, and messages that end on both sides
+/// of where the padding needs one block more and of a block's end.
+#[test]
+fn tags_are_the_plain_tags() {
+    let mut generator = Generator::new(5);
+    for bits in (128..=512).step_by(8) {
+        let b = if bits <= 256 { 192 } else { 128 };
+        for key in [0, 1, b - 1, b, b + 1, 1000] {
+            for length in [0, 1, b - 19, b - 18, b, 2 * b + 1] {
+                let salt = generator.bytes();
+                let (key, message) = (generator.vector(key), generator.vector(length));
+                if let Some(given) = hmac(bits, &salt, &key, &message) {
+                    assert_eq!(given, plain::hmac::hmac(bits, &salt, &key, &message));
+                }
+            }
+        }
+    }
+}
+
+#[test]
+#[should_panic(expected = "no digest has 264000 bits")]
+fn other_lengths_of_a_tag_are_a_mistake_of_the_caller() {
+    hmac(264_000, &[0; 16], b"key", b"");
+}
+
 #[test]
 #[should_panic(expected = "no digest has 260 bits")]
 fn other_digest_lengths_are_a_mistake_of_the_caller() {

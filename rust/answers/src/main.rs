@@ -11,9 +11,11 @@ mod echo_cases;
 mod echosum;
 mod file;
 mod known_answers;
+mod patterned;
 mod session_cases;
 mod table_cases;
 mod table_programs;
+mod tag_cases;
 
 use file::File;
 use std::path::Path;
@@ -25,6 +27,7 @@ fn files() -> Vec<File> {
         echo_cases::files(),
         digest_cases::files(),
         session_cases::files(),
+        tag_cases::files(),
         table_programs::files(),
         table_cases::files(),
         echosum::files(),

@@ -1,9 +1,9 @@
 //! Cases of the program `session_cases`: sessions that need not come from an
 //! opening, nor be sessions at all, opened, added to, read and asked about.
 
-mod forged;
+pub mod forged;
 mod no_sessions;
-mod record;
+pub mod record;
 mod refused;
 #[cfg(test)]
 mod tests;

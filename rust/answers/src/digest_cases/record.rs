@@ -1,5 +1,6 @@
 //! One case of `digest_cases`: its record of 32 bytes and the line it has to give.
 
+use crate::patterned::patterned;
 use plain::{checked, hex, refusal};
 use seeded::Generator;
 
@@ -48,11 +49,8 @@ impl Case {
         record
     }
 
-    /// The message: no two of its stretches of 256 bytes are the same.
     pub fn message(&self) -> Vec<u8> {
-        (0..usize::from(self.length))
-            .map(|i| (usize::from(self.seed) + 29 * i + 101 * (i / 256)) as u8)
-            .collect()
+        patterned(self.seed, self.length)
     }
 
     /// The digest, or the refusal number. The pieces make no difference to it.

@@ -57,11 +57,7 @@ impl Case {
     pub fn record(&self) -> Vec<u8> {
         let mut record = Vec::with_capacity(RECORD);
         record.extend([self.task as u8, self.length]);
-        record.extend(self.session.bits.to_le_bytes());
-        record.extend(self.session.taken.to_le_bytes());
-        record.extend(self.session.salt);
-        record.extend(self.session.chaining);
-        record.extend(self.session.waiting);
+        record.extend(bytes(&self.session));
         record.extend(self.room);
         record
     }
@@ -103,13 +99,29 @@ impl Case {
 }
 
 fn handed_back(answer: &Answer) -> String {
+    format!("{} {}", answer.number, fields(&answer.session))
+}
+
+/// The 352 bytes of a session within a record.
+pub fn bytes(session: &Session) -> Vec<u8> {
+    let mut bytes = Vec::new();
+    bytes.extend(session.bits.to_le_bytes());
+    bytes.extend(session.taken.to_le_bytes());
+    bytes.extend(session.salt);
+    bytes.extend(session.chaining);
+    bytes.extend(session.waiting);
+    bytes
+}
+
+/// The five fields of a session within a line.
+pub fn fields(session: &Session) -> String {
     let Session {
         bits,
         salt,
         chaining,
         taken,
         waiting,
-    } = &answer.session;
+    } = session;
     let bytes = [&salt[..], chaining, waiting].map(hex::encode).join(" ");
-    format!("{} {bits} {taken} {bytes}", answer.number)
+    format!("{bits} {taken} {bytes}")
 }

@@ -1,0 +1,253 @@
+//! One case of `tag_cases`: its record, a header of 40 bytes and for some tasks a
+//! tag session and a room behind it, and the line it has to give.
+
+use crate::patterned::patterned;
+use crate::session_cases::record::{bytes, fields};
+use plain::tag_session::{TagSession, BLANK};
+use plain::{checked, hex, refusal};
+use seeded::Generator;
+
+/// Bytes of a record's header.
+pub const HEADER: usize = 40;
+
+/// Bytes of the room for a piece, the output or a tag.
+pub const ROOM: usize = 255;
+
+/// The most bytes of a key, and of a message.
+pub const MOST: u16 = 1024;
+
+/// What is asked for; the numbers stand in the record.
+#[derive(Debug, Clone, Copy, PartialEq, Eq)]
+pub enum Task {
+    /// The tag of a whole message, and two checks of it.
+    Whole = 1,
+    /// Opens a tag session.
+    Open = 2,
+    /// Adds a piece.
+    Add = 3,
+    /// Reads the tag.
+    Read = 4,
+    IsSession = 5,
+    /// Checks a tag.
+    Check = 6,
+}
+
+/// A case: all that a task may be handed over. What it has no use for is filled
+/// too, within the bounds of the field.
+#[derive(Clone)]
+pub struct Case {
+    pub task: Task,
+    /// Bytes of the piece, the output room or the tag that are handed over.
+    pub length: u8,
+    /// The digest length.
+    pub bits: u64,
+    /// Bytes of the key.
+    pub key_length: u16,
+    /// Bytes of the message.
+    pub message_length: u16,
+    /// Bytes of each piece that a tag session is given, or 0 for a tag at once.
+    pub piece: u16,
+    /// The key's first byte.
+    pub key_seed: u8,
+    /// The message's first byte.
+    pub message_seed: u8,
+    /// Bytes of the salt that are handed over.
+    pub salt_length: u8,
+    pub salt: [u8; 16],
+    /// What a record holds behind its header, if its task is asked of it.
+    pub on: Option<On>,
+}
+
+/// A record that may be a tag session, and the room beside it.
+#[derive(Clone)]
+pub struct On {
+    pub session: TagSession,
+    pub room: [u8; ROOM],
+}
+
+/// What is handed back.
+pub struct Answer {
+    /// The refusal number, or 0.
+    pub number: u8,
+    /// What a check says.
+    pub yes: bool,
+    pub session: TagSession,
+    /// The room afterwards.
+    pub room: [u8; ROOM],
+}
+
+impl Case {
+    /// A case with a key, and everything else from the generator, but for a salt
+    /// that is handed over whole.
+    pub fn keyed(generator: &mut Generator, task: Task, bits: u64, key_length: u16) -> Case {
+        Case {
+            task,
+            bits,
+            key_length,
+            salt_length: 16,
+            ..Case::filled(generator)
+        }
+    }
+
+    /// A case on a tag session, with a room from the generator.
+    pub fn on(generator: &mut Generator, task: Task, length: u8, session: TagSession) -> Case {
+        let room = generator.bytes();
+        Case {
+            task,
+            length,
+            on: Some(On { session, room }),
+            ..Case::filled(generator)
+        }
+    }
+
+    /// A case that checks these bytes.
+    pub fn check(generator: &mut Generator, session: TagSession, tag: &[u8]) -> Case {
+        let mut case = Case::on(generator, Task::Check, tag.len() as u8, session);
+        case.on_mut().room[..tag.len()].copy_from_slice(tag);
+        case
+    }
+
+    /// Any case, each number within its bounds.
+    fn filled(generator: &mut Generator) -> Case {
+        Case {
+            task: Task::Whole,
+            length: generator.below(256) as u8,
+            bits: 128 + 8 * generator.below(49),
+            key_length: generator.below(u64::from(MOST) + 1) as u16,
+            message_length: generator.below(u64::from(MOST) + 1) as u16,
+            piece: generator.below(256) as u16,
+            key_seed: generator.below(256) as u8,
+            message_seed: generator.below(256) as u8,
+            salt_length: generator.below(17) as u8,
+            salt: generator.bytes(),
+            on: None,
+        }
+    }
+
+    /// What stands behind the header of a case on a tag session.
+    pub fn on_mut(&mut self) -> &mut On {
+        self.on.as_mut().expect("a case on a tag session")
+    }
+
+    /// The record. Numbers have their least significant byte first.
+    pub fn record(&self) -> Vec<u8> {
+        let mut record = Vec::with_capacity(HEADER);
+        record.extend([self.task as u8, self.length]);
+        record.extend(self.bits.to_le_bytes());
+        for number in [self.key_length, self.message_length, self.piece] {
+            record.extend(number.to_le_bytes());
+        }
+        record.extend([self.key_seed, self.message_seed, self.salt_length]);
+        record.extend([0; 5]);
+        record.extend(self.salt);
+        if let Some(On { session, room }) = &self.on {
+            record.extend(bytes(&session.inner));
+            record.extend(bytes(&session.outer));
+            record.extend(room);
+        }
+        record
+    }
+
+    pub fn key(&self) -> Vec<u8> {
+        patterned(self.key_seed, self.key_length)
+    }
+
+    pub fn message(&self) -> Vec<u8> {
+        patterned(self.message_seed, self.message_length)
+    }
+
+    /// The tag of the whole message, or the refusal number. The pieces make no
+    /// difference to it.
+    pub fn tag(&self) -> Result<Vec<u8>, u8> {
+        let mut room = [0; 64];
+        match checked::hmac(
+            self.bits,
+            self.lent_salt(),
+            &self.key(),
+            &self.message(),
+            &mut room,
+        ) {
+            refusal::NONE => Ok(room[..self.bits as usize / 8].to_vec()),
+            number => Err(number),
+        }
+    }
+
+    /// What a check of the whole message says of a tag.
+    fn says(&self, tag: &[u8]) -> &'static str {
+        let (key, message) = (self.key(), self.message());
+        yes_or_no(checked::hmac_check(self.bits, self.lent_salt(), &key, &message, tag).1)
+    }
+
+    fn lent_salt(&self) -> &[u8] {
+        &self.salt[..usize::from(self.salt_length)]
+    }
+
+    /// All that a task on a tag session hands back, and an opening. The question
+    /// whether it is a tag session is answered by [`line`](Case::line) alone.
+    pub fn answer(&self) -> Answer {
+        let length = usize::from(self.length);
+        let (session, room) = match &self.on {
+            Some(on) => (on.session.clone(), on.room),
+            None => (BLANK, [0; ROOM]),
+        };
+        let mut answer = Answer {
+            number: 0,
+            yes: false,
+            session,
+            room,
+        };
+        let lent = &mut answer.room[..length];
+        match self.task {
+            Task::Whole | Task::IsSession => {}
+            Task::Open => {
+                let opened = TagSession::open(self.bits, self.lent_salt(), &self.key());
+                (answer.number, answer.session) = opened;
+            }
+            Task::Add => answer.number = answer.session.add(lent),
+            Task::Read => answer.number = answer.session.read(lent),
+            Task::Check => (answer.number, answer.yes) = answer.session.check(lent),
+        }
+        answer
+    }
+
+    /// The line that the program has to print for the record.
+    pub fn line(&self) -> String {
+        let answer = self.answer();
+        let (number, session) = (answer.number, both(&answer.session));
+        match self.task {
+            Task::Whole => self.whole_line(),
+            Task::Open | Task::Add => format!("{number} {session}\n"),
+            Task::Read => {
+                let lent = &answer.room[..usize::from(self.length)];
+                format!("{number} {session} {}\n", hex::encode(lent))
+            }
+            Task::IsSession => format!("{}\n", yes_or_no(answer.session.is_session())),
+            Task::Check => format!("{number} {} {session}\n", yes_or_no(answer.yes)),
+        }
+    }
+
+    /// The tag, what a check says of it, and of the same with its very last bit
+    /// changed.
+    fn whole_line(&self) -> String {
+        let right = match self.tag() {
+            Ok(tag) => tag,
+            Err(number) => return format!("refused {number}\n"),
+        };
+        let mut wrong = right.clone();
+        *wrong.last_mut().expect("a byte") ^= 1;
+        let said = [self.says(&right), self.says(&wrong)].join(" ");
+        format!("{} {said}\n", hex::encode(&right))
+    }
+}
+
+fn yes_or_no(yes: bool) -> &'static str {
+    match yes {
+        true => "yes",
+        false => "no",
+    }
+}
+
+/// The ten fields of a tag session.
+fn both(session: &TagSession) -> String {
+    [fields(&session.inner), fields(&session.outer)].join(" ")
+}

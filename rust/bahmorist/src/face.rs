@@ -29,6 +29,31 @@ extern "C" {
         out_len: usize,
     ) -> u8;
 
+    pub fn bahmorist_hmac(
+        bits: u64,
+        salt: *const u8,
+        salt_len: usize,
+        key: *const u8,
+        key_len: usize,
+        message: *const u8,
+        message_len: usize,
+        out: *mut u8,
+        out_len: usize,
+    ) -> u8;
+
+    pub fn bahmorist_hmac_check(
+        bits: u64,
+        salt: *const u8,
+        salt_len: usize,
+        key: *const u8,
+        key_len: usize,
+        message: *const u8,
+        message_len: usize,
+        tag: *const u8,
+        tag_len: usize,
+        yes: *mut u8,
+    ) -> u8;
+
     pub fn bahmorist_rounds(
         square: *mut u8,
         square_len: usize,

@@ -1,6 +1,6 @@
-//! ECHO 2.0 digests, the round mixing below them, and fingerprints of steering
-//! tables, by the proved library: a safe face of its C functions, which
-//! `include/bahmorist.h` describes.
+//! ECHO 2.0 digests, tags of messages under a key, the round mixing below them,
+//! and fingerprints of steering tables, by the proved library: a safe face of its
+//! C functions, which `include/bahmorist.h` describes.
 //!
 //! Every number and every length is checked by the library itself. A call that
 //! is refused writes nothing. Nothing is allocated and nothing is kept between
@@ -64,6 +64,136 @@ pub fn digest(bits: u64, salt: &[u8], message: &[u8], out: &mut [u8]) -> Result<
             out.len(),
         )
     })
+}
+
+/// Puts the tag of a message under a key, `bits` / 8 bytes, at the front of
+/// `out`; bytes behind it stay. It is HMAC of FIPS 198-1 over the digest of that
+/// length and salt; the key may have any length. Refuses by 1, 2, 4 or 5.
+///
+/// How long a call takes may depend on the key, since the substitution goes by
+/// tables: who can measure that, or shares the processor's cache, may learn
+/// something of it. Nothing of a key is erased from the stack.
+///
+/// A message that asks to join is tagged, and the tag is checked:
+///
+/// ```
+/// use bahmorist::{hmac, hmac_check};
+///
+/// let (salt, key) = ([0; 16], b"known to both nodes");
+/// let join = b"node a20000000007 asks to join";
+/// let mut tag = [0; 32];
+/// hmac(256, &salt, key, join, &mut tag)?;
+/// assert!(hmac_check(256, &salt, key, join, &tag)?);
+///
+/// let tampered = b"node a20000000008 asks to join";
+/// assert!(!hmac_check(256, &salt, key, tampered, &tag)?);
+/// # Ok::<(), bahmorist::Refusal>(())
+/// ```
+///
+/// It is two digests, each behind a block that the key is xored into:
+///
+/// ```
+/// let (salt, key, message) = ([9; 16], b"key", b"abc");
+/// let (mut inner, mut outer) = (vec![0x36; 128], vec![0x5c; 128]);
+/// for (place, byte) in key.iter().enumerate() {
+///     inner[place] ^= byte;
+///     outer[place] ^= byte;
+/// }
+/// inner.extend(message);
+/// let mut digest = [0; 64];
+/// bahmorist::digest(512, &salt, &inner, &mut digest)?;
+/// outer.extend(digest);
+/// bahmorist::digest(512, &salt, &outer, &mut digest)?;
+///
+/// let mut tag = [0; 64];
+/// bahmorist::hmac(512, &salt, key, message, &mut tag)?;
+/// assert_eq!(tag, digest);
+/// # Ok::<(), bahmorist::Refusal>(())
+/// ```
+///
+/// A room that is too small stays as it is:
+///
+/// ```
+/// use bahmorist::Refusal;
+///
+/// let mut out = [7; 31];
+/// let refused = bahmorist::hmac(256, &[0; 16], b"key", b"abc", &mut out);
+/// assert_eq!(refused, Err(Refusal::Room));
+/// assert_eq!(out, [7; 31]);
+/// ```
+pub fn hmac(
+    bits: u64,
+    salt: &[u8],
+    key: &[u8],
+    message: &[u8],
+    out: &mut [u8],
+) -> Result<(), Refusal> {
+    // SAFETY: each pointer comes with its slice's length; see `face`.
+    answer(unsafe {
+        face::bahmorist_hmac(
+            bits,
+            salt.as_ptr(),
+            salt.len(),
+            key.as_ptr(),
+            key.len(),
+            message.as_ptr(),
+            message.len(),
+            out.as_mut_ptr(),
+            out.len(),
+        )
+    })
+}
+
+/// Whether `tag` is the tag that [`hmac`] gives, all of it: bytes of any other
+/// length are none. Refuses by 1, 2 or 4.
+///
+/// How long a call takes may depend on the key, as with [`hmac`], and nothing of
+/// a key is erased from the stack.
+///
+/// ```
+/// use bahmorist::{hmac, hmac_check, Refusal};
+///
+/// let (salt, key) = ([0; 16], b"known to both nodes");
+/// let join = b"node a20000000007 asks to join";
+/// let mut tag = [0; 32];
+/// hmac(256, &salt, key, join, &mut tag)?;
+/// assert!(hmac_check(256, &salt, key, join, &tag)?);
+///
+/// // A tag that is cut is no tag, nor is one with a bit changed.
+/// assert!(!hmac_check(256, &salt, key, join, &tag[..31])?);
+/// assert!(!hmac_check(256, &salt, key, join, &[])?);
+/// tag[31] ^= 1;
+/// assert!(!hmac_check(256, &salt, key, join, &tag)?);
+///
+/// let refused = hmac_check(256, &salt[1..], key, join, &tag);
+/// assert_eq!(refused, Err(Refusal::Salt));
+/// # Ok::<(), Refusal>(())
+/// ```
+pub fn hmac_check(
+    bits: u64,
+    salt: &[u8],
+    key: &[u8],
+    message: &[u8],
+    tag: &[u8],
+) -> Result<bool, Refusal> {
+    let mut yes = 0;
+    // SAFETY: each pointer comes with its slice's length, and the answer is a
+    // variable of this function; see `face`.
+    answer(unsafe {
+        face::bahmorist_hmac_check(
+            bits,
+            salt.as_ptr(),
+            salt.len(),
+            key.as_ptr(),
+            key.len(),
+            message.as_ptr(),
+            message.len(),
+            tag.as_ptr(),
+            tag.len(),
+            &mut yes,
+        )
+    })
+    .map(|()| yes == 1)
 }
 
 /// Rewrites a square of 256 bytes by 8 or 10 of ECHO's rounds, whose inner

@@ -23,7 +23,8 @@ pub enum Refusal {
     /// The record is no session. Nothing here takes a session, so this is never
     /// given here.
     Session = 3,
-    /// The message is over 2^61 - 21 bytes.
+    /// The message is over 2^61 - 21 bytes, or a key is, or the key's block, of
+    /// 192 or 128 bytes, and the message together.
     Message = 4,
     /// The output room is smaller than what goes there.
     Room = 5,
@@ -73,7 +74,9 @@ impl Display for Refusal {
             Refusal::DigestLength => "the digest length is not a multiple of 8 from 128 to 512",
             Refusal::Salt => "the salt is not 16 bytes",
             Refusal::Session => "the record is no session",
-            Refusal::Message => "the message is over 2^61 - 21 bytes",
+            Refusal::Message => {
+                "the message, or a key, or key block and message together, is over 2^61 - 21 bytes"
+            }
             Refusal::Room => "the output room is too small",
             Refusal::Shape => "sizes of no family, no square, or a round count other than 8 and 10",
             Refusal::Counter => "the starting counter is above 2^64 - 161",

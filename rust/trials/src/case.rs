@@ -1,7 +1,7 @@
 //! One call of a routine on given inputs, and what came of it.
 
 use crate::guarded::Guarded;
-use crate::implementation::Implementation;
+use crate::implementation::{Answer, Implementation, Inputs};
 use plain::hex;
 use seeded::Generator;
 use std::fmt::{self, Display, Formatter};
@@ -11,6 +11,10 @@ use std::fmt::{self, Display, Formatter};
 pub enum Routine {
     /// A digest at once.
     Digest { bits: u64 },
+    /// A tag at once.
+    Hmac { bits: u64 },
+    /// A check of a tag.
+    HmacCheck { bits: u64 },
     /// Rounds forward.
     Rounds { count: u64, counter: u64 },
     /// Rounds backward.
@@ -26,9 +30,12 @@ pub enum Routine {
 pub struct Case {
     pub routine: Routine,
     pub salt: Vec<u8>,
-    /// What is read besides the salt: message, block or table; rounds have none.
+    /// The key of a tag; other routines have none.
+    pub key: Vec<u8>,
+    /// What else is read: message, block or table; rounds have none.
     pub input: Vec<u8>,
-    /// What is lent to be written: output room, square or chaining value.
+    /// What is lent to be written: output room, square or chaining value. A check
+    /// is lent the tag, and writes none of it.
     pub lent: Vec<u8>,
 }
 
@@ -39,6 +46,8 @@ pub struct Outcome {
     pub number: u8,
     /// The place, 0 where there is none.
     pub place: u64,
+    /// 1 where a check says yes, else 0.
+    pub yes: u8,
     /// All that was lent, afterwards.
     pub lent: Vec<u8>,
 }
@@ -47,12 +56,13 @@ impl Case {
     /// What an implementation makes of the case.
     pub fn outcome(&self, by: &Implementation) -> Outcome {
         let mut lent = self.lent.clone();
-        let (number, place) = by.call(self.routine, &self.salt, &self.input, &mut lent);
-        Outcome {
-            number,
-            place,
-            lent,
-        }
+        let inputs = Inputs {
+            salt: &self.salt,
+            key: &self.key,
+            input: &self.input,
+        };
+        let answer = by.call(self.routine, &inputs, &mut lent);
+        Outcome::new(answer, lent)
     }
 
     /// The same with everything lent from the middle of larger buffers. Says what
@@ -63,11 +73,21 @@ impl Case {
         generator: &mut Generator,
     ) -> Result<Outcome, String> {
         let salt = Guarded::new(&self.salt, generator);
+        let key = Guarded::new(&self.key, generator);
         let input = Guarded::new(&self.input, generator);
         let mut lent = Guarded::new(&self.lent, generator);
-        let (number, place) = by.call(self.routine, salt.bytes(), input.bytes(), lent.bytes_mut());
+        let inputs = Inputs {
+            salt: salt.bytes(),
+            key: key.bytes(),
+            input: input.bytes(),
+        };
+        let answer = by.call(self.routine, &inputs, lent.bytes_mut());
+        let number = answer.number;
         if !salt.unchanged() {
             return Err("the salt or a byte beside it was changed".into());
+        }
+        if !key.unchanged() {
+            return Err("the key or a byte beside it was changed".into());
         }
         if !input.unchanged() {
             return Err("an input or a byte beside it was changed".into());
@@ -78,17 +98,15 @@ impl Case {
         if number != 0 && !lent.unchanged() {
             return Err(format!("refused by {number}, but a lent byte was changed"));
         }
-        Ok(Outcome {
-            number,
-            place,
-            lent: lent.bytes().to_vec(),
-        })
+        Ok(Outcome::new(answer, lent.bytes().to_vec()))
     }
 
     /// The inputs that are called square, message and so on for this routine.
     fn names(&self) -> (&'static str, &'static str, &'static str) {
         match self.routine {
             Routine::Digest { .. } => ("digest", "message", "room"),
+            Routine::Hmac { .. } => ("tag", "message", "room"),
+            Routine::HmacCheck { .. } => ("check", "message", "tag"),
             Routine::Rounds { .. } => ("rounds", "", "square"),
             Routine::RoundsBack { .. } => ("rounds backward", "", "square"),
             Routine::Compress { .. } => ("compression", "block", "chaining value"),
@@ -98,7 +116,10 @@ impl Case {
 
     /// Whether the lent bytes are an input as well.
     fn reads_lent(&self) -> bool {
-        !matches!(self.routine, Routine::Digest { .. } | Routine::Fingerprint)
+        !matches!(
+            self.routine,
+            Routine::Digest { .. } | Routine::Hmac { .. } | Routine::Fingerprint
+        )
     }
 }
 
@@ -108,6 +129,9 @@ impl Display for Case {
         write!(to, "{name}, ")?;
         match self.routine {
             Routine::Digest { bits } => write!(to, "{bits} bits, ")?,
+            Routine::Hmac { bits } | Routine::HmacCheck { bits } => {
+                write!(to, "{bits} bits, key {}, ", shown(&self.key))?
+            }
             Routine::Rounds { count, counter } | Routine::RoundsBack { count, counter } => {
                 write!(to, "{count} of them, counter {counter}, ")?
             }
@@ -127,9 +151,21 @@ impl Display for Case {
 }
 
 impl Outcome {
+    /// The outcome of a call that answers this and leaves these bytes.
+    fn new(answer: Answer, lent: Vec<u8>) -> Outcome {
+        let Answer { number, place, yes } = answer;
+        Outcome {
+            number,
+            place,
+            yes,
+            lent,
+        }
+    }
+
     /// What is wrong with this outcome where another is right.
     pub fn difference(&self, right: &Outcome) -> Option<String> {
-        if (self.number, self.place) != (right.number, right.place) {
+        let told = |outcome: &Outcome| (outcome.number, outcome.place, outcome.yes);
+        if told(self) != told(right) {
             let (given, right) = (self.answer(), right.answer());
             return Some(format!("{given}, where {right} is right"));
         }
@@ -140,12 +176,19 @@ impl Outcome {
         })
     }
 
+    /// All that was answered, in words.
     fn answer(&self) -> String {
-        match (self.number, self.place) {
+        let mut answer = match (self.number, self.place) {
             (0, 0) => "done".into(),
             (0, place) => format!("done at {place}"),
             (number, place) => format!("refused {number} at {place}"),
+        };
+        match self.yes {
+            0 => {}
+            1 => answer += " with a yes",
+            other => answer += &format!(" with {other} for a yes"),
         }
+        answer
     }
 }
 

@@ -32,6 +32,21 @@ pub fn digest_lengths() -> impl Iterator<Item = u64> {
     (128..=512).step_by(8)
 }
 
+/// Bytes of a block.
+pub fn block(bits: u64) -> usize {
+    if bits <= 256 {
+        192
+    } else {
+        128
+    }
+}
+
+/// Lengths of a key: none, one byte, both sides of a block, and several blocks.
+pub fn keys(bits: u64) -> [usize; 6] {
+    let block = block(bits);
+    [0, 1, block - 1, block, block + 1, 1000]
+}
+
 /// A salt, which is all zero one time in eight.
 pub fn salt(generator: &mut Generator) -> Vec<u8> {
     match generator.below(8) {
@@ -52,9 +67,35 @@ pub fn digest(generator: &mut Generator, bits: u64, length: usize) -> Case {
     Case {
         routine: Routine::Digest { bits },
         salt: salt(generator),
+        key: vec![],
         input: generator.vector(length),
         lent: generator.vector((bits / 8 + spare) as usize),
     }
+}
+
+/// A tag into a room like that of a digest, under a key of any bytes.
+pub fn hmac(generator: &mut Generator, bits: u64, key: usize, length: usize) -> Case {
+    Case {
+        routine: Routine::Hmac { bits },
+        key: generator.vector(key),
+        ..digest(generator, bits, length)
+    }
+}
+
+/// A check of the right tag.
+pub fn check(generator: &mut Generator, bits: u64, key: usize, length: usize) -> Case {
+    let case = hmac(generator, bits, key, length);
+    Case {
+        routine: Routine::HmacCheck { bits },
+        lent: right_tag(bits, &case),
+        ..case
+    }
+}
+
+/// The tag that a check has to say yes to. Length and salt are admitted.
+pub fn right_tag(bits: u64, case: &Case) -> Vec<u8> {
+    let salt = case.salt.as_slice().try_into().expect("16 bytes");
+    plain::hmac::hmac(bits, salt, &case.key, &case.input)
 }
 
 /// A routine on a square.
@@ -63,6 +104,7 @@ pub fn on_square(generator: &mut Generator, routine: Routine) -> Case {
     Case {
         routine,
         salt: salt(generator),
+        key: vec![],
         input: vec![],
         lent: match generator.below(32) {
             0 => vec![byte; 256],
@@ -76,6 +118,7 @@ pub fn compression(generator: &mut Generator, words: usize, counter: u64) -> Cas
     Case {
         routine: Routine::Compress { counter },
         salt: salt(generator),
+        key: vec![],
         input: generator.vector(256 - 16 * words),
         lent: generator.vector(16 * words),
     }

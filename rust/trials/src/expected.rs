@@ -3,8 +3,8 @@
 //! that of the record nearer the front.
 //!
 //! Two numbers never come up here. 3 is about sessions, which have no way in
-//! through the C face, and 4 would need a message that no memory holds. The
-//! program `session_cases` is run on both.
+//! through the C face, and 4 would need a message or a key that no memory holds.
+//! The programs `session_cases` and `tag_cases` are run on both.
 
 use crate::case::{Case, Routine};
 
@@ -21,10 +21,12 @@ pub fn refusals(case: &Case) -> Vec<(u8, u64)> {
     let (salt, input, lent) = (case.salt.len(), case.input.len(), case.lent.len());
     let bad_salt = (2, salt != 16);
     match case.routine {
-        Routine::Digest { bits } => {
-            let admitted = (128..=512).contains(&bits) && bits % 8 == 0;
-            holding([(1, !admitted), bad_salt, (5, (lent as u64) < bits / 8)])
+        Routine::Digest { bits } | Routine::Hmac { bits } => {
+            let room = (lent as u64) < bits / 8;
+            holding([(1, !admitted(bits)), bad_salt, (5, room)])
         }
+        // A tag that is shorter than the right one is no room: it gets a no.
+        Routine::HmacCheck { bits } => holding([(1, !admitted(bits)), bad_salt]),
         Routine::Rounds { count, counter } | Routine::RoundsBack { count, counter } => {
             let shape = lent == 256 && (count == 8 || count == 10);
             holding([bad_salt, (6, !shape), (7, counter > HIGHEST_COUNTER)])
@@ -39,6 +41,10 @@ pub fn refusals(case: &Case) -> Vec<(u8, u64)> {
             refusals
         }
     }
+}
+
+fn admitted(bits: u64) -> bool {
+    (128..=512).contains(&bits) && bits.is_multiple_of(8)
 }
 
 /// The numbers whose conditions hold, at no place.

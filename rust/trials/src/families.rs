@@ -2,6 +2,7 @@
 
 pub mod block_edges;
 pub mod both_paths;
+pub mod checks;
 pub mod compressions;
 pub mod descriptors;
 pub mod echosum_words;
@@ -16,14 +17,17 @@ pub mod rounds_forward;
 pub mod side_by_side;
 pub mod table_words;
 pub mod tables;
+pub mod tags;
 pub mod there_and_back;
 
 use crate::family::Family;
 
-pub const ALL: [Family; 17] = [
+pub const ALL: [Family; 19] = [
     block_edges::FAMILY,
     every_length::FAMILY,
     random_messages::FAMILY,
+    tags::FAMILY,
+    checks::FAMILY,
     rounds_forward::FAMILY,
     rounds_backward::FAMILY,
     there_and_back::FAMILY,

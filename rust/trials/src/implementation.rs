@@ -1,14 +1,16 @@
-//! An implementation under trial: its five routines, as functions on slices.
+//! An implementation under trial: its seven routines, as functions on slices.
 
 use crate::case::Routine;
 use plain::checked;
 
 /// The routines of one implementation. Each answers a refusal number, or 0; a
-/// fingerprint answers a place too.
+/// fingerprint answers a place too, and a check 1 for yes or 0 for no.
 #[derive(Clone, Copy)]
 pub struct Implementation {
     /// By digest length, salt, message and output room.
     pub digest: fn(u64, &[u8], &[u8], &mut [u8]) -> u8,
+    pub hmac: Hmac,
+    pub hmac_check: HmacCheck,
     /// By square, round count, starting counter and salt.
     pub rounds: fn(&mut [u8], u64, u64, &[u8]) -> u8,
     /// Like `rounds`.
@@ -16,15 +18,44 @@ pub struct Implementation {
     /// By chaining value, block, counter and salt.
     pub compress: fn(&mut [u8], &[u8], u64, &[u8]) -> u8,
     /// By salt, table and output room.
-    pub fingerprint: fn(&[u8], &[u8], &mut [u8]) -> Answer,
+    pub fingerprint: fn(&[u8], &[u8], &mut [u8]) -> Placed,
 }
 
+/// By digest length, salt, key, message and output room.
+pub type Hmac = fn(u64, &[u8], &[u8], &[u8], &mut [u8]) -> u8;
+
+/// By digest length, salt, key, message and tag.
+pub type HmacCheck = fn(u64, &[u8], &[u8], &[u8], &[u8]) -> (u8, u8);
+
 /// A refusal number, or 0, and a place, or 0.
-pub type Answer = (u8, u64);
+pub type Placed = (u8, u64);
+
+/// What a routine reads besides what it is lent; empty where it has none.
+pub struct Inputs<'a> {
+    pub salt: &'a [u8],
+    pub key: &'a [u8],
+    /// Message, block or table.
+    pub input: &'a [u8],
+}
+
+/// What a routine answers.
+pub struct Answer {
+    /// A refusal number, or 0.
+    pub number: u8,
+    /// A place, or 0.
+    pub place: u64,
+    /// 1 where a check says yes, else 0.
+    pub yes: u8,
+}
 
 /// The proved library.
 pub const LIBRARY: Implementation = Implementation {
     digest: |bits, salt, message, out| number(bahmorist::digest(bits, salt, message, out)),
+    hmac: |bits, salt, key, message, out| number(bahmorist::hmac(bits, salt, key, message, out)),
+    hmac_check: |bits, salt, key, message, tag| {
+        let answer = bahmorist::hmac_check(bits, salt, key, message, tag);
+        answer.map_or_else(|refusal| (refusal.number(), 0), |yes| (0, yes.into()))
+    },
     rounds: |square, count, counter, salt| number(bahmorist::rounds(square, count, counter, salt)),
     rounds_back: |square, count, counter, salt| {
         number(bahmorist::rounds_back(square, count, counter, salt))
@@ -41,6 +72,11 @@ pub const LIBRARY: Implementation = Implementation {
 /// The second implementation.
 pub const PLAIN: Implementation = Implementation {
     digest: checked::digest,
+    hmac: checked::hmac,
+    hmac_check: |bits, salt, key, message, tag| {
+        let (number, yes) = checked::hmac_check(bits, salt, key, message, tag);
+        (number, yes.into())
+    },
     rounds: checked::rounds,
     rounds_back: checked::rounds_back,
     compress: checked::compress,
@@ -52,17 +88,36 @@ fn number(answer: Result<(), bahmorist::Refusal>) -> u8 {
 }
 
 impl Implementation {
-    /// Calls a routine: with the salt, what else it reads, and what it may write.
-    /// Answers number and place.
-    pub fn call(&self, routine: Routine, salt: &[u8], input: &[u8], lent: &mut [u8]) -> Answer {
+    /// Calls a routine: with what it reads, and what it may write.
+    pub fn call(&self, routine: Routine, inputs: &Inputs, lent: &mut [u8]) -> Answer {
+        let Inputs { salt, key, input } = *inputs;
+        let alone = |number| Answer {
+            number,
+            place: 0,
+            yes: 0,
+        };
         match routine {
-            Routine::Digest { bits } => ((self.digest)(bits, salt, input, lent), 0),
-            Routine::Rounds { count, counter } => ((self.rounds)(lent, count, counter, salt), 0),
-            Routine::RoundsBack { count, counter } => {
-                ((self.rounds_back)(lent, count, counter, salt), 0)
+            Routine::Digest { bits } => alone((self.digest)(bits, salt, input, lent)),
+            Routine::Hmac { bits } => alone((self.hmac)(bits, salt, key, input, lent)),
+            Routine::HmacCheck { bits } => {
+                let (number, yes) = (self.hmac_check)(bits, salt, key, input, lent);
+                Answer {
+                    yes,
+                    ..alone(number)
+                }
             }
-            Routine::Compress { counter } => ((self.compress)(lent, input, counter, salt), 0),
-            Routine::Fingerprint => (self.fingerprint)(salt, input, lent),
+            Routine::Rounds { count, counter } => alone((self.rounds)(lent, count, counter, salt)),
+            Routine::RoundsBack { count, counter } => {
+                alone((self.rounds_back)(lent, count, counter, salt))
+            }
+            Routine::Compress { counter } => alone((self.compress)(lent, input, counter, salt)),
+            Routine::Fingerprint => {
+                let (number, place) = (self.fingerprint)(salt, input, lent);
+                Answer {
+                    place,
+                    ..alone(number)
+                }
+            }
         }
     }
 }

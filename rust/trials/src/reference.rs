@@ -9,12 +9,17 @@ use crate::implementation::PLAIN;
 pub fn outcome(case: &Case) -> Result<Outcome, String> {
     let plain = case.outcome(&PLAIN);
     let (number, place) = expected::answer(case);
-    let by_table = Outcome {
-        number,
-        place,
-        lent: match number {
-            0 => plain.lent.clone(),
-            _ => case.lent.clone(),
+    let by_table = match number {
+        0 => Outcome {
+            number,
+            place,
+            ..plain.clone()
+        },
+        _ => Outcome {
+            number,
+            place,
+            yes: 0,
+            lent: case.lent.clone(),
         },
     };
     if let Some(difference) = plain.difference(&by_table) {
@@ -24,29 +29,46 @@ pub fn outcome(case: &Case) -> Result<Outcome, String> {
         0 => third(case),
         _ => None,
     };
-    match by_third.and_then(|lent| plain.difference(&Outcome { lent, ..by_table })) {
+    match by_third.and_then(|third| plain.difference(&third)) {
         Some(difference) => Err(format!("plain against third: {difference}")),
         None => Ok(plain),
     }
 }
 
-/// The lent bytes as the AES instruction leaves them, where there is one and it
-/// is asked about whole routines.
-fn third(case: &Case) -> Option<Vec<u8>> {
+/// The outcome by the AES instruction, where there is one and it is asked about
+/// whole routines. The case is not refused.
+fn third(case: &Case) -> Option<Outcome> {
     let salt = case.salt.as_slice().try_into().ok()?;
-    let mut lent = case.lent.clone();
+    let mut third = Outcome {
+        number: 0,
+        place: 0,
+        yes: 0,
+        lent: case.lent.clone(),
+    };
     match case.routine {
         Routine::Digest { bits } => {
             let digest = third::digest(bits, salt, &case.input)?;
-            lent[..digest.len()].copy_from_slice(&digest);
-            Some(lent)
+            third.lent[..digest.len()].copy_from_slice(&digest);
+        }
+        Routine::Hmac { bits } => {
+            let tag = third::hmac(bits, salt, &case.key, &case.input)?;
+            third.lent[..tag.len()].copy_from_slice(&tag);
+        }
+        Routine::HmacCheck { bits } => {
+            let tag = third::hmac(bits, salt, &case.key, &case.input)?;
+            third.yes = (tag == case.lent).into();
         }
         Routine::Rounds { count, counter } => {
-            let square = lent.as_mut_slice().try_into().ok()?;
-            third::rounds(square, count, counter, salt).then_some(lent)
+            let square = third.lent.as_mut_slice().try_into().ok()?;
+            if !third::rounds(square, count, counter, salt) {
+                return None;
+            }
         }
-        _ => None,
+        Routine::RoundsBack { .. } | Routine::Compress { .. } | Routine::Fingerprint => {
+            return None;
+        }
     }
+    Some(third)
 }
 
 #[cfg(test)]
@@ -60,6 +82,7 @@ mod tests {
         let case = Case {
             routine: Routine::Digest { bits: 256 },
             salt: vec![0; 16],
+            key: vec![],
             input: vec![],
             lent: vec![0xee; 34],
         };
@@ -67,9 +90,37 @@ mod tests {
         let outcome = outcome(&case).unwrap();
         assert_eq!(hex::encode(&outcome.lent), format!("{published}eeee"));
         assert_eq!((outcome.number, outcome.place), (0, 0));
-        if let Some(lent) = third(&case) {
-            assert_eq!(lent, outcome.lent);
+        if let Some(third) = third(&case) {
+            assert_eq!(third, outcome);
         }
+    }
+
+    /// Of the whole tag, by `third` too where there is one; and of a cut one.
+    #[test]
+    fn the_outcome_of_a_tag_and_its_checks() {
+        let mut case = Case {
+            routine: Routine::Hmac { bits: 128 },
+            salt: vec![7; 16],
+            key: b"key".to_vec(),
+            input: b"abc".to_vec(),
+            lent: vec![0xee; 18],
+        };
+        let mut tag = outcome(&case).unwrap().lent;
+        assert_eq!(tag.split_off(16), [0xee; 2]);
+        assert_eq!(tag, plain::hmac::hmac(128, &[7; 16], b"key", b"abc"));
+        case.routine = Routine::HmacCheck { bits: 128 };
+        for (given, yes) in [(&tag[..], 1), (&tag[..15], 0), (&[], 0)] {
+            case.lent = given.to_vec();
+            let outcome = outcome(&case).unwrap();
+            assert_eq!((outcome.number, outcome.yes), (0, yes));
+            if let Some(third) = third(&case) {
+                assert_eq!(third, outcome);
+            }
+        }
+        case.lent = tag;
+        case.salt.pop();
+        let outcome = outcome(&case).unwrap();
+        assert_eq!((outcome.number, outcome.yes), (2, 0));
     }
 
     #[test]
@@ -77,6 +128,7 @@ mod tests {
         let case = Case {
             routine: Routine::Digest { bits: 256 },
             salt: vec![0; 15],
+            key: vec![],
             input: vec![],
             lent: vec![0xee; 34],
         };

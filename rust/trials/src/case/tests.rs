@@ -5,6 +5,7 @@ fn case() -> Case {
     Case {
         routine: Routine::Digest { bits: 128 },
         salt: vec![0x5a; 16],
+        key: vec![],
         input: b"abc".to_vec(),
         lent: vec![0xee; 20],
     }
@@ -28,6 +29,19 @@ fn a_case_shows_its_inputs() {
         "compression, counter 7, salt {salt}, block of 256 bytes {ends}, chaining value empty"
     );
     assert_eq!(case.to_string(), shown);
+}
+
+#[test]
+fn a_tag_and_a_check_show_their_key() {
+    let mut case = case();
+    case.key = vec![0xc3; 2];
+    case.routine = Routine::Hmac { bits: 256 };
+    let salt = "5a".repeat(16);
+    let shown = format!("256 bits, key c3c3, salt {salt}, message 616263");
+    assert_eq!(case.to_string(), format!("tag, {shown}, room of 20 bytes"));
+    case.routine = Routine::HmacCheck { bits: 256 };
+    let tag = "ee".repeat(20);
+    assert_eq!(case.to_string(), format!("check, {shown}, tag {tag}"));
 }
 
 #[test]
@@ -71,6 +85,18 @@ fn every_part_of_an_outcome_counts() {
     };
     let seen = "done at 4, where done is right";
     assert_eq!(place.difference(&right), Some(seen.into()));
+    let yes = Outcome {
+        yes: 1,
+        ..right.clone()
+    };
+    let seen = "done with a yes, where done is right";
+    assert_eq!(yes.difference(&right), Some(seen.into()));
+    let unwritten = Outcome {
+        yes: 0xa5,
+        ..number.clone()
+    };
+    let seen = "refused 9 at 3 with 165 for a yes, where refused 9 at 3 is right";
+    assert_eq!(unwritten.difference(&number), Some(seen.into()));
     let mut lent = right.clone();
     lent.lent[19] = 0xef;
     let seen = "lent byte 19 became ef, where ee is right";

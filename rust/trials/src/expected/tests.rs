@@ -4,6 +4,7 @@ fn case(routine: Routine, salt: usize, input: &[u8], lent: usize) -> Case {
     Case {
         routine,
         salt: vec![0; salt],
+        key: vec![],
         input: input.to_vec(),
         lent: vec![0; lent],
     }
@@ -24,6 +25,28 @@ fn digests() {
     ] {
         let case = case(Routine::Digest { bits }, salt, b"abc", room);
         assert_eq!(answer(&case), (number, 0), "{case}");
+    }
+}
+
+/// A tag is refused like a digest, and a check for its room never.
+#[test]
+fn tags_and_checks() {
+    for (bits, salt, lent, number) in [
+        (128, 16, 16, 0),
+        (512, 16, 64, 0),
+        (512, 16, 63, 5),
+        (512, 16, 0, 5),
+        (120, 16, 64, 1),
+        (130, 15, 0, 1),
+        (u64::MAX, 17, 0, 1),
+        (256, 15, 31, 2),
+        (256, 17, 32, 2),
+    ] {
+        let tag = case(Routine::Hmac { bits }, salt, b"abc", lent);
+        assert_eq!(answer(&tag), (number, 0), "{tag}");
+        let check = case(Routine::HmacCheck { bits }, salt, b"abc", lent);
+        let number = if number == 5 { 0 } else { number };
+        assert_eq!(answer(&check), (number, 0), "{check}");
     }
 }
 

@@ -14,7 +14,7 @@ const BLOCKS: usize = 4;
 
 fn run(run: &mut Run) -> Result<(), String> {
     for bits in draw::digest_lengths() {
-        let block = if bits <= 256 { 192 } else { 128 };
+        let block = draw::block(bits);
         let edges = (1..=BLOCKS).flat_map(|blocks| {
             let end = blocks * block;
             [end - 19, end - 18, end - 17, end - 1, end, end + 1]

@@ -5,6 +5,8 @@
 #![allow(unsafe_code)]
 
 use crate::case::{Case, Routine};
+use crate::draw;
+use crate::expected;
 use crate::family::{Family, Run};
 use crate::implementation::Implementation;
 use std::ptr;
@@ -23,6 +25,29 @@ extern "C" {
         message_len: usize,
         out: *mut u8,
         out_len: usize,
+    ) -> u8;
+    fn bahmorist_hmac(
+        bits: u64,
+        salt: *const u8,
+        salt_len: usize,
+        key: *const u8,
+        key_len: usize,
+        message: *const u8,
+        message_len: usize,
+        out: *mut u8,
+        out_len: usize,
+    ) -> u8;
+    fn bahmorist_hmac_check(
+        bits: u64,
+        salt: *const u8,
+        salt_len: usize,
+        key: *const u8,
+        key_len: usize,
+        message: *const u8,
+        message_len: usize,
+        tag: *const u8,
+        tag_len: usize,
+        yes: *mut u8,
     ) -> u8;
     fn bahmorist_rounds(
         square: *mut u8,
@@ -60,14 +85,56 @@ extern "C" {
     ) -> u8;
 }
 
-// SAFETY, for all five: the pointer of a slice and its length, or NULL and 0; what
+// SAFETY, for all seven: the pointer of a slice and its length, or NULL and 0; what
 // is written comes from a `&mut`.
-const WITH_NULL: Implementation = Implementation {
+pub const WITH_NULL: Implementation = Implementation {
     digest: |bits, salt, message, out| {
         let (salt, salt_len) = read(salt);
         let (message, message_len) = read(message);
         let (out, out_len) = written(out);
         unsafe { bahmorist_digest(bits, salt, salt_len, message, message_len, out, out_len) }
+    },
+    hmac: |bits, salt, key, message, out| {
+        let (salt, salt_len) = read(salt);
+        let (key, key_len) = read(key);
+        let (message, message_len) = read(message);
+        let (out, out_len) = written(out);
+        unsafe {
+            bahmorist_hmac(
+                bits,
+                salt,
+                salt_len,
+                key,
+                key_len,
+                message,
+                message_len,
+                out,
+                out_len,
+            )
+        }
+    },
+    hmac_check: |bits, salt, key, message, tag| {
+        let (salt, salt_len) = read(salt);
+        let (key, key_len) = read(key);
+        let (message, message_len) = read(message);
+        let (tag, tag_len) = read(tag);
+        // Neither yes nor no: it has to be written on every call.
+        let mut yes = 0xa5;
+        let number = unsafe {
+            bahmorist_hmac_check(
+                bits,
+                salt,
+                salt_len,
+                key,
+                key_len,
+                message,
+                message_len,
+                tag,
+                tag_len,
+                &mut yes,
+            )
+        };
+        (number, yes)
     },
     rounds: |square, count, counter, salt| {
         let (square, square_len) = written(square);
@@ -128,17 +195,43 @@ fn run(run: &mut Run) -> Result<(), String> {
     run.subject = WITH_NULL;
     for (routine, input, lent) in routines() {
         for empty in 0..8 {
-            let length = |bit: usize, length: usize| if empty >> bit & 1 == 1 { 0 } else { length };
-            let case = Case {
-                routine,
-                salt: run.generator.vector(length(0, 16)),
-                input: zeros_after_twos(length(1, input)),
-                lent: run.generator.vector(length(2, lent)),
-            };
+            let case = with_empty(run, empty, routine, 0, input, lent);
+            run.check(&case)?;
+        }
+    }
+    for (routine, key, input, lent) in keyed() {
+        for empty in 0..16 {
+            let case = with_empty(run, empty, routine, key, input, lent);
             run.check(&case)?;
         }
     }
     Ok(())
+}
+
+/// A case with these lengths, or 0 where a bit of `empty` says so. A check that is
+/// given a tag is given the right one, if there is any.
+fn with_empty(
+    run: &mut Run,
+    empty: usize,
+    routine: Routine,
+    key: usize,
+    input: usize,
+    lent: usize,
+) -> Case {
+    let length = |bit: usize, length: usize| if empty >> bit & 1 == 1 { 0 } else { length };
+    let mut case = Case {
+        routine,
+        salt: run.generator.vector(length(0, 16)),
+        key: run.generator.vector(length(3, key)),
+        input: zeros_after_twos(length(1, input)),
+        lent: run.generator.vector(length(2, lent)),
+    };
+    if let Routine::HmacCheck { bits } = routine {
+        if expected::refusals(&case).is_empty() && !case.lent.is_empty() {
+            case.lent = draw::right_tag(bits, &case);
+        }
+    }
+    case
 }
 
 /// Routines, with the lengths of the input and of what is lent that they would
@@ -158,6 +251,19 @@ fn routines() -> [(Routine, usize, usize); 12] {
         (Routine::Compress { counter: u64::MAX }, 128, 128),
         (Routine::Fingerprint, 6, 32),
         (Routine::Fingerprint, 7, 40),
+    ]
+}
+
+/// The same of routines that have a key, whose length comes first.
+fn keyed() -> [(Routine, usize, usize, usize); 7] {
+    [
+        (Routine::Hmac { bits: 128 }, 5, 5, 16),
+        (Routine::Hmac { bits: 512 }, 129, 200, 64),
+        (Routine::Hmac { bits: 0 }, 5, 5, 64),
+        (Routine::HmacCheck { bits: 128 }, 5, 5, 16),
+        (Routine::HmacCheck { bits: 256 }, 193, 192, 32),
+        (Routine::HmacCheck { bits: 512 }, 128, 200, 64),
+        (Routine::HmacCheck { bits: 0 }, 5, 5, 64),
     ]
 }
 

@@ -5,7 +5,9 @@ mod inputs;
 #[cfg(test)]
 mod tests;
 
+use super::null_pointers::WITH_NULL;
 use crate::case::{Case, Routine};
+use crate::draw;
 use crate::family::{Family, Run};
 use seeded::Generator;
 
@@ -16,10 +18,16 @@ pub const FAMILY: Family = Family {
 
 fn run(run: &mut Run) -> Result<(), String> {
     let mut cases = digests(&mut run.generator);
+    cases.extend(tags(&mut run.generator));
     cases.extend(on_squares(&mut run.generator));
     cases.extend(compressions(&mut run.generator));
     cases.extend(fingerprints(&mut run.generator));
-    cases.iter().try_for_each(|case| run.check(case))
+    cases.iter().try_for_each(|case| run.check(case))?;
+    let checks = checks(&mut run.generator);
+    checks.iter().try_for_each(|case| run.check(case))?;
+    // The C function itself, whose refusals say no in so many words.
+    run.subject = WITH_NULL;
+    checks.iter().try_for_each(|case| run.check(case))
 }
 
 /// Numbers 1, 2 and 5.
@@ -33,6 +41,47 @@ fn digests(generator: &mut Generator) -> Vec<Case> {
                     cases.push(filled(generator, routine, salt, message, room));
                 }
             }
+        }
+    }
+    cases
+}
+
+/// Numbers 1, 2 and 5.
+fn tags(generator: &mut Generator) -> Vec<Case> {
+    let mut cases = Vec::new();
+    for bits in inputs::BITS {
+        for salt in inputs::SALTS {
+            for room in inputs::rooms(bits) {
+                for (key, message) in [(0, 3), (3, 0), (200, 200)] {
+                    let routine = Routine::Hmac { bits };
+                    let case = filled(generator, routine, salt, message, room);
+                    cases.push(Case {
+                        key: generator.vector(key),
+                        ..case
+                    });
+                }
+            }
+        }
+    }
+    cases
+}
+
+/// Numbers 1 and 2, with tags of any length. Where there is a right one for the
+/// salt, or for sixteen bytes made of it, the tag begins with that or is cut from
+/// it.
+fn checks(generator: &mut Generator) -> Vec<Case> {
+    let mut cases = tags(generator);
+    for case in &mut cases {
+        let Routine::Hmac { bits } = case.routine else {
+            continue;
+        };
+        case.routine = Routine::HmacCheck { bits };
+        if draw::digest_lengths().any(|admitted| admitted == bits) {
+            let mut salted = case.clone();
+            salted.salt.resize(16, 0);
+            let length = case.lent.len();
+            case.lent = draw::right_tag(bits, &salted);
+            case.lent.resize(length, 0);
         }
     }
     cases
@@ -89,7 +138,7 @@ fn fingerprints(generator: &mut Generator) -> Vec<Case> {
     cases
 }
 
-/// A case with buffers of these lengths.
+/// A case with buffers of these lengths, and no key.
 fn filled(
     generator: &mut Generator,
     routine: Routine,
@@ -100,6 +149,7 @@ fn filled(
     Case {
         routine,
         salt: generator.vector(salt),
+        key: vec![],
         input: generator.vector(input),
         lent: generator.vector(lent),
     }

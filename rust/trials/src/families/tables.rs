@@ -35,6 +35,7 @@ fn case(run: &mut Run) -> Case {
     Case {
         routine: Routine::Fingerprint,
         salt,
+        key: vec![],
         input: table::some(generator),
         lent: generator.vector(room),
     }

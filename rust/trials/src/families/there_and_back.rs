@@ -35,6 +35,7 @@ fn there_and_back(run: &mut Run, there: Routine, back: Routine) -> Result<(), St
     let right = Outcome {
         number: 0,
         place: 0,
+        yes: 0,
         lent: case.lent.clone(),
     };
     match at_the_end.difference(&right) {

@@ -26,6 +26,8 @@ fn every_set(numbers: &[u8]) -> HashSet<Vec<u8>> {
 fn every_set_of_refusals_is_met() {
     let generator = &mut Generator::new(1);
     assert_eq!(sets(digests(generator)), every_set(&[1, 2, 5]));
+    assert_eq!(sets(tags(generator)), every_set(&[1, 2, 5]));
+    assert_eq!(sets(checks(generator)), every_set(&[1, 2]));
     assert_eq!(sets(on_squares(generator)), every_set(&[2, 6, 7]));
     assert_eq!(sets(compressions(generator)), every_set(&[2, 6, 7]));
     // Of 9 and 10 only the one nearer the front applies.
@@ -73,4 +75,57 @@ fn a_place_that_is_one_off_is_seen() {
         ..LIBRARY
     };
     assert!(said(wrong).contains("refused 10 at "));
+}
+
+#[test]
+fn a_tag_refused_for_its_room_before_its_salt_is_seen() {
+    let wrong = Implementation {
+        hmac: |bits, salt, key, message, out| match bits / 8 > out.len() as u64 {
+            true if (128..=512).contains(&bits) && bits.is_multiple_of(8) => 5,
+            _ => (LIBRARY.hmac)(bits, salt, key, message, out),
+        },
+        ..LIBRARY
+    };
+    assert!(said(wrong).ends_with("refused 5 at 0, where refused 2 at 0 is right"));
+}
+
+#[test]
+fn a_check_that_refuses_a_tag_for_its_length_is_seen() {
+    let wrong = Implementation {
+        hmac_check: |bits, salt, key, message, tag| {
+            let (number, yes) = (LIBRARY.hmac_check)(bits, salt, key, message, tag);
+            match number {
+                0 if (tag.len() as u64) < bits / 8 => (5, 0),
+                _ => (number, yes),
+            }
+        },
+        ..LIBRARY
+    };
+    assert!(said(wrong).ends_with("refused 5 at 0, where done is right"));
+}
+
+/// The salt is made one of sixteen bytes, and refused all the same.
+#[test]
+fn a_refused_check_that_says_yes_is_seen() {
+    let wrong = Implementation {
+        hmac_check: |bits, salt, key, message, tag| {
+            let mut made = salt.to_vec();
+            made.resize(16, 0);
+            let (number, _) = (LIBRARY.hmac_check)(bits, salt, key, message, tag);
+            let (_, yes) = (LIBRARY.hmac_check)(bits, &made, key, message, tag);
+            (number, yes)
+        },
+        ..LIBRARY
+    };
+    let seen = "refused 2 at 0 with a yes, where refused 2 at 0 is right";
+    assert!(said(wrong).ends_with(seen));
+}
+
+#[test]
+fn some_checks_say_yes() {
+    let cases = checks(&mut Generator::new(1));
+    let yes = |case: &&Case| case.outcome(&LIBRARY).yes == 1;
+    // Six digest lengths are admitted, each with one length of the salt and one
+    // of the tag, and three keys.
+    assert_eq!(cases.iter().filter(yes).count(), 6 * 3);
 }

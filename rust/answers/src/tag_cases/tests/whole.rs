@@ -93,6 +93,23 @@ fn each_message_is_tagged_at_once_and_in_pieces() {
     }
 }
 
+/// What the program does with pieces, step by step.
+#[test]
+fn pieces_with_a_reading_and_a_check_behind_each_give_the_answer() {
+    for case in all_done() {
+        if case.piece == 0 {
+            continue;
+        }
+        let (number, mut session) = TagSession::open(case.bits, &case.salt, &case.key());
+        assert_eq!(number, 0);
+        for piece in case.message().chunks(case.piece.into()) {
+            assert_eq!(session.add(piece), 0);
+            assert_eq!(session.check(&tag(&session)), (0, true));
+        }
+        assert_eq!(tag(&session), case.tag().expect("a tag"));
+    }
+}
+
 #[test]
 fn some_salts_are_all_zero() {
     let cases = all_done();

@@ -1,4 +1,4 @@
-/* ECHO 2.0 digests, its round mixing forward and backward, and fingerprints of steering tables.
+/* ECHO 2.0 digests, its round mixing forward and backward, fingerprints of steering tables, and tags of messages under a key.
  *
  * Link target/staticlib/libbahmorist.a, which `rt staticlib bahmorist` makes for x86-64 Linux; `tools/library` makes
  * target/native/libbahmorist.a for the machine at hand. The library keeps nothing between calls, allocates nothing and may be called from
@@ -6,12 +6,13 @@
  * not counted; 4,096 of them are tables, which a build for a task with little stack does without (docs/DECISIONS.md, "Two paths"). The code for
  * x86-64 uses the SSE2 registers, which a kernel has to save around a call.
  *
- * How long a call takes depends on the data: the substitution is in tables. Nothing is erased: what was worked on stays on the stack until
- * something else is written there.
+ * How long a call takes depends on the data, keys included: the substitution is in tables, and which entries are read depends on what is
+ * worked on. So the tag functions are not for a node on which an attacker can run code beside them or measure how long they take. Nothing is
+ * erased: what was worked on, keys included, stays on the stack until something else is written there.
  *
  * Each function answers 0, or the number that it refuses by (enum bahmorist_refusal). Where several apply the lowest is given, but between 9
- * and 10 that of the record nearer the table's front. A function that refuses writes to no buffer; bahmorist_fingerprint writes *place even
- * then. What stands in a buffer after a refusal is no digest, so a compiler that can warns where an answer is not looked at.
+ * and 10 that of the record nearer the table's front. A function that refuses writes to no buffer; bahmorist_fingerprint writes *place and
+ * bahmorist_hmac_check writes *yes even then. What stands in a buffer after a refusal is no digest, so a compiler that can warns where an answer is not looked at.
  *
  * What a caller must give: a pointer and a length name that many bytes, which nothing else writes during the call. Memory that a function
  * writes (a pointer without const) overlaps none of its other arguments. Where a length is 0 nothing is read or written there, and any
@@ -22,8 +23,8 @@
 #include <stddef.h>
 #include <stdint.h>
 
-#define BAHMORIST_VERSION "0.3.0"
-#define BAHMORIST_VERSION_NUMBER 300 /* 10,000 times the first part, 100 times the second and the third, added up */
+#define BAHMORIST_VERSION "0.4.0"
+#define BAHMORIST_VERSION_NUMBER 400 /* 10,000 times the first part, 100 times the second and the third, added up */
 
 #define BAHMORIST_SALT_BYTES 16
 #define BAHMORIST_SQUARE_BYTES 256
@@ -36,7 +37,7 @@ enum bahmorist_refusal {
     BAHMORIST_DONE = 0,
     BAHMORIST_REFUSED_DIGEST_LENGTH = 1, /* the digest length is not a multiple of 8 from 128 to 512 */
     BAHMORIST_REFUSED_SALT = 2,          /* the salt is not 16 bytes */
-    BAHMORIST_REFUSED_MESSAGE = 4,       /* the message is over 2^61 - 21 bytes */
+    BAHMORIST_REFUSED_MESSAGE = 4,       /* the message is over 2^61 - 21 bytes; for a tag, the key is, or one block and the message are */
     BAHMORIST_REFUSED_ROOM = 5,          /* the output room is under bits / 8 bytes, or under 32 for a fingerprint */
     BAHMORIST_REFUSED_SHAPE = 6,         /* chaining and block sizes are neither 64 and 192 nor 128 and 128; the square is not 256 bytes; the
                                             round count is not 8 or 10 */
@@ -97,6 +98,18 @@ BAHMORIST_LOOK_AT uint8_t bahmorist_compress(uint8_t *chaining, size_t chaining_
  * else 0. */
 BAHMORIST_LOOK_AT uint8_t bahmorist_fingerprint(const uint8_t *salt, size_t salt_len, const uint8_t *table, size_t table_len, uint8_t *out,
                                                 size_t out_len, uint64_t *place);
+
+/* Puts the tag of the message under the key, bits / 8 bytes, at the front of out; bytes behind it stay. It is HMAC by FIPS 198-1 over the ECHO
+ * digest of so many bits under the salt, whose blocks are 192 bytes up to 256 bits and 128 above. A key may have any length. Refuses by 1, 2, 4
+ * or 5. */
+BAHMORIST_LOOK_AT uint8_t bahmorist_hmac(uint64_t bits, const uint8_t *salt, size_t salt_len, const uint8_t *key, size_t key_len,
+                                         const uint8_t *message, size_t message_len, uint8_t *out, size_t out_len);
+
+/* Checks a tag: *yes becomes 1 where tag is all bits / 8 bytes of the message's tag under the key and nothing else, and else 0; a tag of another
+ * length gets 0. Where the length is right, every byte of the tag is looked at, whatever the first ones are. Refuses by 1, 2 or 4, and *yes
+ * is 0 then. yes is not NULL, and is written on every call. */
+BAHMORIST_LOOK_AT uint8_t bahmorist_hmac_check(uint64_t bits, const uint8_t *salt, size_t salt_len, const uint8_t *key, size_t key_len,
+                                               const uint8_t *message, size_t message_len, const uint8_t *tag, size_t tag_len, uint8_t *yes);
 
 #ifdef __cplusplus
 }

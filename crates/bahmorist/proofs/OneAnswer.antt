@@ -8,6 +8,8 @@ use Rattle.bahmorist.proofs.bahmorist_rounds.Reads as bahmorist_rounds
 use Rattle.bahmorist.proofs.bahmorist_rounds_back.Reads as bahmorist_rounds_back
 use Rattle.bahmorist.proofs.bahmorist_compress.Reads as bahmorist_compress
 use Rattle.bahmorist.proofs.bahmorist_fingerprint.Reads as bahmorist_fingerprint
+use Rattle.bahmorist.proofs.bahmorist_hmac.Reads as bahmorist_hmac
+use Rattle.bahmorist.proofs.bahmorist_hmac_check.Reads as bahmorist_hmac_check
 
 pub bahmorist-digest-has-one-answer : (κs : _) (a : _) (r r′ : _) (s s′ : _) → bahmorist_digest.Post κs a r s → bahmorist_digest.Post κs a r′ s′
     → (r ≡ r′) × (now (s .1 .1 .1 .0) ≡ now (s′ .1 .1 .1 .0))
@@ -28,3 +30,11 @@ bahmorist-compress-has-one-answer κs a r r′ s s′ p q = (p .0 ∙ sym (q .0)
 pub bahmorist-fingerprint-has-one-answer : (κs : _) (a : _) (r r′ : _) (s s′ : _) → bahmorist_fingerprint.Post κs a r s → bahmorist_fingerprint.Post κs a r′ s′
     → (r ≡ r′) × (now (s .1 .1 .0) ≡ now (s′ .1 .1 .0)) × (now (s .1 .1 .1 .0) ≡ now (s′ .1 .1 .1 .0))
 bahmorist-fingerprint-has-one-answer κs a r r′ s s′ p q = (p .0 ∙ sym (q .0), p .1 .0 ∙ sym (q .1 .0), p .1 .1 ∙ sym (q .1 .1))
+
+pub bahmorist-hmac-has-one-answer : (κs : _) (a : _) (r r′ : _) (s s′ : _) → bahmorist_hmac.Post κs a r s → bahmorist_hmac.Post κs a r′ s′
+    → (r ≡ r′) × (now (s .1 .1 .1 .1 .0) ≡ now (s′ .1 .1 .1 .1 .0))
+bahmorist-hmac-has-one-answer κs a r r′ s s′ p q = (p .0 ∙ sym (q .0), p .1 ∙ sym (q .1))
+
+pub bahmorist-hmac-check-has-one-answer : (κs : _) (a : _) (r r′ : _) (s s′ : _) → bahmorist_hmac_check.Post κs a r s → bahmorist_hmac_check.Post κs a r′ s′
+    → (r ≡ r′) × (now (s .1 .1 .1 .1 .1 .0) ≡ now (s′ .1 .1 .1 .1 .1 .0))
+bahmorist-hmac-check-has-one-answer κs a r r′ s s′ p q = (p .0 ∙ sym (q .0), p .1 ∙ sym (q .1))

@@ -4,8 +4,10 @@ ghost use mathlib.Core.Path.{_≡_};
 ghost use lib.ListN.{length};
 ghost use Rattle.echo.specs.Routines.{compressLeaves, compressRefusal, roundsBackLeave, roundsLeave, roundsRefusal};
 ghost use Rattle.echo.specs.Session.{digestLeaves, digestRefusal};
+ghost use Rattle.hmac.specs.Routines.{checkAnswer, makeLeaves, makeRefusal};
 ghost use Rattle.steering.specs.Fingerprint.{fingerprintAnswer, fingerprintLeaves};
 ghost use Rattle.steering.specs.Parsing.{parse};
+ghost use Rattle.bahmorist.specs.Answers.{numberOf};
 
 // The digest of a message at the front of `out`, and 0; or a refusal by 1, 2, 4 or 5.
 #[no_mangle]
@@ -69,4 +71,44 @@ pub extern "C" fn bahmorist_fingerprint(
     let answer = steering::fingerprint(salt, table, out);
     *place = answer.place as u64;
     answer.refusal
+}
+
+// The tag of a message under a key at the front of `out`, and 0; or a refusal by 1, 2, 4 or 5.
+#[no_mangle]
+pub extern "C" fn bahmorist_hmac(
+    bits: u64,
+    salt: &[u8],
+    key: &[u8],
+    message: &[u8],
+    out: &mut [u8],
+) -> u8
+    ensures refusal { λ r. ⌜ r ≡ makeRefusal bits (length (now (salt .entry))) (length (now (key .entry))) (length (now (message .entry))) (length (now (out .entry))) ⌝ }
+    ensures left { λ _. ⌜ now (out .exit) ≡ makeLeaves bits (now (salt .entry)) (now (key .entry)) (now (message .entry)) (now (out .entry)) ⌝ }
+{
+    hmac::make_tag(bits, salt, key, message, out)
+}
+
+// Whether a tag is that of a message under a key, and 0; or a refusal by 1, 2 or 4. `yes` is written on every call: 1 for yes, and 0 for no
+// and with a refusal.
+#[no_mangle]
+pub extern "C" fn bahmorist_hmac_check(
+    bits: u64,
+    salt: &[u8],
+    key: &[u8],
+    message: &[u8],
+    tag: &[u8],
+    yes: &mut u8,
+) -> u8
+    ensures refusal { λ r. ⌜ r ≡ checkAnswer bits (now (salt .entry)) (now (key .entry)) (now (message .entry)) (now (tag .entry)) .refusal ⌝ }
+    ensures yes { λ _. ⌜ now (yes .exit) ≡ numberOf (checkAnswer bits (now (salt .entry)) (now (key .entry)) (now (message .entry)) (now (tag .entry)) .yes) ⌝ }
+{
+    let verdict = hmac::check_tag(bits, salt, key, message, tag);
+    *yes = number_of(verdict.yes);
+    verdict.refusal
+}
+
+fn number_of(says: bool) -> u8
+    ensures { λ r. ⌜ r ≡ numberOf says ⌝ }
+{
+    if says { 1 } else { 0 }
 }

@@ -1,0 +1,2 @@
+-- What the contracts of this crate mean, beyond the definitions of the layers below.
+pub mod Answers

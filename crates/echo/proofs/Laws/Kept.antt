@@ -65,8 +65,10 @@ module _ (s : Session) (x : ℕ) where
 
       full : s .taken % b + 1 ≡ b → isSession (filledBy s x) ≡ true
       full e =
-          sym (is-clear (filledBy s x) true (sym (F .admits)) refl few b refl true (sym (zero-behind ((s .taken + 1) % b) (replicate 192 0) (zeros-are-zero 192)))
-          refl c true (sym (rw (drop-at chained (drop c (s .chaining)) c (length-compress c (roundCount c) _ (s .salt) _ _)) (F .chaining-zero))) refl)
+          let waits = zero-behind ((s .taken + 1) % b) (replicate 192 0) (zeros-are-zero 192) in
+          let long = length-compress c (roundCount c) _ (s .salt) _ _ in
+          sym (is-clear (filledBy s x) true (sym (F .admits)) refl few b refl true (sym waits) refl c true
+          (sym (rw (drop-at chained (drop c (s .chaining)) c long) (F .chaining-zero))) refl)
 
       more : s .taken % b + 1 < b → isSession (longerBy s x) ≡ true
       more l =

@@ -137,9 +137,11 @@ module _ (h : ℕ) (salt key message : List ℕ) where
 
           pub left-reads : (u : List ℕ) → u ≡ readTagLeaves (y .session) room → u ≡ makeLeaves h salt key message room
           unfolding readTagLeaves makeLeaves
-          left-reads u q = rw (← read-number) (q ∙ ap₂ (λ (tag : List ℕ) (n : ℕ). unless (readTagRefusal (y .session) (length room)) (tag ++ drop (n / 8) room) room)
-              (ap sessionTag (whole-is z y d w) ∙ holds-tag h salt key message)
-              (ap (λ (t : TagSession). t .outer .bits) (whole-is z y d w) ∙ holds-bits h salt key message))
+          left-reads u q =
+              let number = readTagRefusal (y .session) (length room) in
+              let tagged = ap sessionTag (whole-is z y d w) ∙ holds-tag h salt key message in
+              let bits = ap (λ (t : TagSession). t .outer .bits) (whole-is z y d w) ∙ holds-bits h salt key message in
+              rw (← read-number) (q ∙ ap₂ (λ (tag : List ℕ) (n : ℕ). unless number (tag ++ drop (n / 8) room) room) tagged bits)
 
     -- ---- checking
 

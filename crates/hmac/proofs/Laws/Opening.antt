@@ -20,7 +20,11 @@ use Rattle.hmac.specs.declared.key_block.KeyBlock.{KeyBlock}
 use Rattle.hmac.specs.declared.tag_session.TagAnswer.{TagAnswer}
 use Rattle.hmac.specs.declared.tag_session.TagSession.{TagSession}
 use Rattle.hmac.specs.Hmac.{keyBlock}
-use Rattle.hmac.specs.TagSession.{blankTag, openTagAnswer, openTagRefusal, openedTag}
+use Rattle.hmac.specs.TagSession.{blankTag, keyedBy, openTagAnswer, openTagRefusal, openedTag}
+
+-- a session to which the block at the front of some bytes was added, xored with a pad
+abbrev begunWith : Session → List ℕ → ℕ → Session
+begunWith f bytes pad = let b = blockSize (f .bits) in addBytes f (xorBytes b (take b bytes) (replicate b pad))
 
 pub blank-is : (salt : List ℕ) (x : Answer) → x ≡ openAnswer 0 salt → _≡_ {A = TagSession} (record { inner = x .session; outer = x .session }) blankTag
 blank-is salt x e =
@@ -83,18 +87,16 @@ module _ (h : ℕ) (salt key : List ℕ) (x : Answer) (e : x ≡ openAnswer h sa
       pub opened-keyed : k .refusal ≡ 0
           → (k .refusal ≡ 0 → take (blockSize h) (k .bytes) ≡ keyBlock (digestOf h salt) (blockSize h) key)
           → (i o : Session)
-          → i ≡ addBytes (x .session) (xorBytes (blockSize (x .session .bits)) (take (blockSize (x .session .bits)) (k .bytes)) (replicate (blockSize (x .session .bits)) 0x36))
-          → o ≡ addBytes (x .session) (xorBytes (blockSize (x .session .bits)) (take (blockSize (x .session .bits)) (k .bytes)) (replicate (blockSize (x .session .bits)) 0x5c))
+          → i ≡ begunWith (x .session) (k .bytes) 0x36
+          → o ≡ begunWith (x .session) (k .bytes) 0x5c
           → _≡_ {A = TagAnswer} (record { refusal = 0; session = record { inner = i; outer = o } }) (openTagAnswer h salt key)
       unfolding openTagAnswer openTagRefusal openedTag
       opened-keyed none K i o p q = by (ltb limit (length key)) refl
         where
-          keyed : (pad : ℕ) (s : Session)
-              → s ≡ addBytes (x .session) (xorBytes (blockSize (x .session .bits)) (take (blockSize (x .session .bits)) (k .bytes)) (replicate (blockSize (x .session .bits)) pad))
-              → s ≡ addBytes (opened h salt) (xorBytes (blockSize h) (keyBlock (digestOf h salt) (blockSize h) key) (replicate (blockSize h) pad))
+          keyed : (pad : ℕ) (s : Session) → s ≡ begunWith (x .session) (k .bytes) pad → s ≡ keyedBy h salt key (replicate (blockSize h) pad)
           keyed pad s d =
               d
-              ∙ ap (λ (f : Session). addBytes f (xorBytes (blockSize (f .bits)) (take (blockSize (f .bits)) (k .bytes)) (replicate (blockSize (f .bits)) pad))) fresh
+              ∙ ap (λ (f : Session). begunWith f (k .bytes) pad) fresh
               ∙ ap (λ (l : List ℕ). addBytes (opened h salt) (xorBytes (blockSize h) l (replicate (blockSize h) pad))) (K none)
 
           by : (l : Bool) → ltb limit (length key) ≡ l

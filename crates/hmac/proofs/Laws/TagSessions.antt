@@ -109,9 +109,11 @@ module _ (t : TagSession) (piece : List ℕ) (a : Bool) (e : a ≡ isTagSession 
       by : (b : Bool) → ltb limit (t .inner .taken + length piece) ≡ b
           → _≡_ {A = TagAnswer} (record { refusal = x .refusal; session = record { inner = x .session; outer = t .outer } }) (addTagAnswer t piece)
       by true p =
-          rw (← e, not-false a holds, p, d, ← added-much (t .inner) piece true is refl (omega (arith, few, ltb-true limit (t .inner .taken + length piece) p)))
+          let long = ltb-true limit (t .inner .taken + length piece) p in
+          rw (← e, not-false a holds, p, d, ← added-much (t .inner) piece true is refl (omega (arith, few, long)))
       by false p =
-          rw (← e, not-false a holds, p, d, ← added (t .inner) piece true is refl _ refl (omega (arith, few, ltb-false limit (t .inner .taken + length piece) p)))
+          let short = ltb-false limit (t .inner .taken + length piece) p in
+          rw (← e, not-false a holds, p, d, ← added (t .inner) piece true is refl _ refl (omega (arith, few, short)))
 
 -- ---- the outer session with the digest of the inner one
 

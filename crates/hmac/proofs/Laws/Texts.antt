@@ -54,6 +54,9 @@ module _ (h : ℕ) (salt key : List ℕ) where
   inner-length : (m : List ℕ) → length (padded (ipad B) ++ m) ≡ B + length m
   inner-length m = length-append (padded (ipad B)) m ∙ ap (λ (n : ℕ). n + length m) (length-xor B _ (ipad B))
 
+  outer-length : length (padded (opad B)) ≡ B
+  outer-length = length-xor B _ (opad B)
+
   pub holds-bits : (m : List ℕ) → holding m .outer .bits ≡ h
   holds-bits m = ap (λ (s : Session). s .bits) (outer-is m) ∙ opened-bits h salt (padded (opad B))
 
@@ -70,7 +73,7 @@ module _ (h : ℕ) (salt key : List ℕ) where
       ∙ opened-digest h salt (padded (opad B) ++ digestOf h salt (padded (ipad B) ++ m))
 
   module _ (a : admitted h ≡ true) where
-    pub opens-tag : length salt ≡ 16 → length key ≤ limit → _≡_ {A = TagAnswer} (openTagAnswer h salt key) (record { refusal = 0; session = openedTag h salt key })
+    pub opens-tag : length salt ≡ 16 → length key ≤ limit → openTagAnswer h salt key ≡ record { refusal = 0; session = openedTag h salt key }
     unfolding openTagAnswer openTagRefusal
     opens-tag l k = rw (a, eq-eqb (length salt) 16 l, le-ltb limit (length key) k)
 
@@ -79,13 +82,13 @@ module _ (h : ℕ) (salt key : List ℕ) where
         let S = sizes h in
         fits-tag (holding m) (record {
           inner-is = ap isSession (inner-is m) ∙ opened-is-session h salt (padded (ipad B) ++ m) a (omega (arith, inner-length m));
-          outer-is = ap isSession (outer-is m) ∙ opened-is-session h salt (padded (opad B)) a (omega (arith, length-xor B (keyBlock (digestOf h salt) B key) (opad B)));
+          outer-is = ap isSession (outer-is m) ∙ opened-is-session h salt (padded (opad B)) a (omega (arith, outer-length));
           one-length = ap (λ (s : Session). s .bits) (inner-is m) ∙ opened-bits h salt (padded (ipad B) ++ m) ∙ sym (holds-bits m);
           one-salt =
               ap (λ (s : Session). s .salt) (inner-is m) ∙ add-keeps (opened h salt) (padded (ipad B) ++ m) .1
               ∙ sym (ap (λ (s : Session). s .salt) (outer-is m) ∙ add-keeps (opened h salt) (padded (opad B)) .1);
           outer-block =
-              ap (λ (s : Session). s .taken) (outer-is m) ∙ opened-taken h salt (padded (opad B)) ∙ length-xor B _ (opad B)
+              ap (λ (s : Session). s .taken) (outer-is m) ∙ opened-taken h salt (padded (opad B)) ∙ outer-length
               ∙ ap blockSize (sym (holds-bits m));
           inner-more = rw (holds-bits m, holds-count m) (omega arith);
         })

@@ -67,7 +67,7 @@ module _ (h : ℕ) (salt key : List ℕ) (a : admitted h ≡ true) (l : length s
   most = admitted-most h salt true (sym a) refl
 
   -- the key is digested
-  module _ (long : b < length key) (r : ℕ) (e : r ≡ digestRefusal h (length salt) (length key) 192) where
+  module _ (r : ℕ) (e : r ≡ digestRefusal h (length salt) (length key) 192) where
     pub digested-number : r ≡ either (ltb limit (length key)) 4 0
     digested-number = by (ltb limit (length key)) refl
       where
@@ -78,10 +78,10 @@ module _ (h : ℕ) (salt key : List ℕ) (a : admitted h ≡ true) (l : length s
             ∙ ap (digestRefusal h (length salt) (length key)) (sym (zeros-long 192))
             ∙ at-once-is-the-digest h salt key (zeros 192) a l (ltb-false limit (length key) p) (omega (arith, most, zeros-long 192)) .0
 
-    pub digested-block : (u : List ℕ) → u ≡ digestLeaves h salt key (replicate 192 0) → r ≡ 0
+    pub digested-block : b < length key → (u : List ℕ) → u ≡ digestLeaves h salt key (replicate 192 0) → r ≡ 0
         → take (blockSize h) u ≡ keyBlock (digestOf h salt) (blockSize h) key
     unfolding keyBlock zeros
-    digested-block u d none =
+    digested-block long u d none =
         let D = digestible h (length salt) (length key) 192 (sym e ∙ none) in
         let S = sizes h in
         let n = digest-long h salt a key in

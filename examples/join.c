@@ -1,4 +1,4 @@
-/* Tags a join message and checks it, and turns a tampered one down.
+/* Tags a join message, checks it as a node that gets it would, and turns a tampered one down.
  *
  *     cc -std=c99 -I include examples/join.c target/native/libbahmorist.a -o target/join && target/join
  *
@@ -6,16 +6,24 @@
 #include "bahmorist.h"
 #include <stdio.h>
 
-/* Prints a line, and answers 0 where the check says what is expected. */
-static int checked(const char *what, const uint8_t *message, size_t message_len, const uint8_t *tag, size_t tag_len, uint8_t expected)
-{
-    static const uint8_t salt[BAHMORIST_SALT_BYTES] = {0};
-    static const uint8_t key[16] = {0x0b, 0x0b, 0x0b, 0x0b, 0x0b, 0x0b, 0x0b, 0x0b, 0x0b, 0x0b, 0x0b, 0x0b, 0x0b, 0x0b, 0x0b, 0x0b};
-    uint8_t yes;
-    uint8_t refusal = bahmorist_hmac_check(256, salt, sizeof salt, key, sizeof key, message, message_len, tag, tag_len, &yes);
+/* Without a salt. A key of the product's own is random, and 16 bytes or more. */
+static const uint8_t salt[BAHMORIST_SALT_BYTES] = {0};
+static const uint8_t key[16] = {0x0b, 0x0b, 0x0b, 0x0b, 0x0b, 0x0b, 0x0b, 0x0b, 0x0b, 0x0b, 0x0b, 0x0b, 0x0b, 0x0b, 0x0b, 0x0b};
 
-    if (refusal != BAHMORIST_DONE) {
-        fprintf(stderr, "refused by %u\n", (unsigned)refusal);
+static int refused(uint8_t number)
+{
+    if (number != BAHMORIST_DONE) {
+        fprintf(stderr, "refused by %u\n", (unsigned)number);
+    }
+    return number != BAHMORIST_DONE;
+}
+
+/* Prints what a check says, and answers 0 where that is what is expected. */
+static int check(const char *what, const uint8_t *message, size_t message_len, const uint8_t *tag, size_t tag_len, uint8_t expected)
+{
+    uint8_t yes;
+
+    if (refused(bahmorist_hmac_check(256, salt, sizeof salt, key, sizeof key, message, message_len, tag, tag_len, &yes))) {
         return 1;
     }
     printf("%s: %s\n", what, yes ? "accepted" : "turned down");
@@ -24,24 +32,20 @@ static int checked(const char *what, const uint8_t *message, size_t message_len,
 
 int main(void)
 {
-    static const uint8_t salt[BAHMORIST_SALT_BYTES] = {0};
-    static const uint8_t key[16] = {0x0b, 0x0b, 0x0b, 0x0b, 0x0b, 0x0b, 0x0b, 0x0b, 0x0b, 0x0b, 0x0b, 0x0b, 0x0b, 0x0b, 0x0b, 0x0b};
     uint8_t message[13] = {'j', 'o', 'i', 'n', ' ', 'a', '2', '0', '0', '0', '0', '0', '7'};
     uint8_t tag[32];
-    uint8_t refusal = bahmorist_hmac(256, salt, sizeof salt, key, sizeof key, message, sizeof message, tag, sizeof tag);
     int wrong;
 
-    if (refusal != BAHMORIST_DONE) {
-        fprintf(stderr, "refused by %u\n", (unsigned)refusal);
+    if (refused(bahmorist_hmac(256, salt, sizeof salt, key, sizeof key, message, sizeof message, tag, sizeof tag))) {
         return 1;
     }
     for (size_t i = 0; i < sizeof tag; i++) {
         printf("%02x", (unsigned)tag[i]);
     }
     printf("\n");
-    wrong = checked("as it was sent", message, sizeof message, tag, sizeof tag, 1);
-    wrong |= checked("a tag that is cut", message, sizeof message, tag, sizeof tag - 1, 0);
+    wrong = check("as it was sent", message, sizeof message, tag, sizeof tag, 1);
+    wrong |= check("with its tag cut", message, sizeof message, tag, sizeof tag - 1, 0);
     message[12] = '8';
-    wrong |= checked("tampered with", message, sizeof message, tag, sizeof tag, 0);
+    wrong |= check("tampered with", message, sizeof message, tag, sizeof tag, 0);
     return wrong;
 }

@@ -32,6 +32,10 @@ isTagSession t =
 abbrev pub blankTag : TagSession
 blankTag = record { inner = blank; outer = blank }
 
+-- an opening that is refused by a number, for the contract of a private function
+abbrev pub refusedTag : ℕ → TagAnswer
+refusedTag number = record { refusal = number; session = blankTag }
+
 -- an opened digest session to which K0, xored with a pad of one block, was added
 abbrev pub keyedBy : ℕ → List ℕ → List ℕ → List ℕ → Session
 keyedBy h salt key pad = addBytes (opened h salt) (xorBytes (blockSize h) (keyBlock (digestOf h salt) (blockSize h) key) pad)

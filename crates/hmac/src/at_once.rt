@@ -20,14 +20,12 @@ pub fn make_tag(bits: u64, salt: &[u8], key: &[u8], message: &[u8], out: &mut [u
     if not_opened != 0 {
         return not_opened;
     }
-    let opened = opening.session;
-    let adding = opened.add(message);
+    let adding = opening.session.add(message);
     let not_added = adding.refusal;
     if not_added != 0 {
         return not_added;
     }
-    let whole = adding.session;
-    let reading = whole.read(out);
+    let reading = adding.session.read(out);
     reading.refusal
 }
 
@@ -43,8 +41,7 @@ pub fn check_tag(bits: u64, salt: &[u8], key: &[u8], message: &[u8], tag: &[u8])
             yes: false,
         };
     }
-    let opened = opening.session;
-    let adding = opened.add(message);
+    let adding = opening.session.add(message);
     let not_added = adding.refusal;
     if not_added != 0 {
         return Verdict {
@@ -52,8 +49,7 @@ pub fn check_tag(bits: u64, salt: &[u8], key: &[u8], message: &[u8], tag: &[u8])
             yes: false,
         };
     }
-    let whole = adding.session;
-    let checking = whole.check(tag);
+    let checking = adding.session.check(tag);
     Verdict {
         refusal: checking.refusal,
         yes: checking.yes,

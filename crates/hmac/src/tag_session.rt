@@ -2,14 +2,14 @@
 ghost use mathlib.Core.Bool.{true};
 ghost use mathlib.Core.Path.{_≡_};
 ghost use lib.ListN.{length};
-ghost use Rattle.hmac.specs.TagSession.{addTagAnswer, blankTag, checkTagAnswer, closedBy, isTagSession, openTagAnswer, readTagAnswer, readTagLeaves};
+ghost use Rattle.hmac.specs.TagSession.{addTagAnswer, checkTagAnswer, closedBy, isTagSession, openTagAnswer, readTagAnswer, readTagLeaves, refusedTag};
 use super::key_block::block_size;
 use super::key_block::key_block;
 use super::key_block::keyed;
 use super::same::same;
 use echo::Session;
 
-// A tag that is under way. It is passed by value, and each call hands it back.
+// A tag that is under way. It is passed by value, and each call hands it back. It is worth as much as its key: whoever reads it can make tags.
 pub struct TagSession {
     // the digest of K0 xored with ipad, and of the message so far
     pub inner: Session,
@@ -31,15 +31,19 @@ pub struct Checking {
 }
 
 impl TagSession {
-    // Two blank sessions, and no tag session. A refused opening hands a blank one out, and no digest has 0 bits.
-    fn blank() -> Self
-        ensures { λ r. ⌜ r ≡ blankTag ⌝ }
+    // A refusal of an opening: two blank sessions, which are no tag session. A refused opening of a digest hands a blank one out, and no digest has
+    // 0 bits.
+    fn refused(number: u8) -> TagAnswer
+        ensures { λ r. ⌜ r ≡ refusedTag number ⌝ }
     {
-        let refused = Session::open(0, b"");
-        let none = refused.session;
-        TagSession {
-            inner: none,
-            outer: none,
+        let opening = Session::open(0, b"");
+        let none = opening.session;
+        TagAnswer {
+            refusal: number,
+            session: TagSession {
+                inner: none,
+                outer: none,
+            },
         }
     }
 
@@ -49,34 +53,24 @@ impl TagSession {
         ensures { λ r. ⌜ r ≡ openTagAnswer bits (now (salt .entry)) (now (key .entry)) ⌝ }
     {
         let opening = Session::open(bits, salt);
-        let refused = opening.refusal;
-        if refused != 0 {
-            let none = TagSession::blank();
-            return TagAnswer {
-                refusal: refused,
-                session: none,
-            };
+        let not_opened = opening.refusal;
+        if not_opened != 0 {
+            return TagSession::refused(not_opened);
         }
         let k0 = key_block(bits, salt, key);
         let too_long = k0.refusal;
         if too_long != 0 {
-            let none = TagSession::blank();
-            return TagAnswer {
-                refusal: too_long,
-                session: none,
-            };
+            return TagSession::refused(too_long);
         }
-        let fresh = opening.session;
         let block = k0.bytes;
-        let inner = keyed(fresh, block, 0x36);
-        let outer = keyed(fresh, block, 0x5c);
-        let opened = TagSession {
-            inner: inner,
-            outer: outer,
-        };
+        let inner = keyed(opening.session, block, 0x36);
+        let outer = keyed(opening.session, block, 0x5c);
         TagAnswer {
             refusal: 0,
-            session: opened,
+            session: TagSession {
+                inner: inner,
+                outer: outer,
+            },
         }
     }
 
@@ -84,27 +78,25 @@ impl TagSession {
     pub fn is_session(self) -> bool
         ensures { λ r. ⌜ r ≡ isTagSession self ⌝ }
     {
-        let inner = self.inner;
-        if !inner.is_session() {
+        if !self.inner.is_session() {
             return false;
         }
-        let outer = self.outer;
-        if !outer.is_session() {
+        if !self.outer.is_session() {
             return false;
         }
-        if inner.bits != outer.bits {
+        if self.inner.bits != self.outer.bits {
             return false;
         }
-        let salt = inner.salt;
-        let outer_salt = outer.salt;
+        let salt = self.inner.salt;
+        let outer_salt = self.outer.salt;
         if !same(&salt, &outer_salt) {
             return false;
         }
-        let b = block_size(outer.bits) as u64;
-        if outer.taken != b {
+        let b = block_size(self.outer.bits) as u64;
+        if self.outer.taken != b {
             return false;
         }
-        b <= inner.taken
+        b <= self.inner.taken
     }
 
     // The session with the piece joined to its message, or the same with 3 (no tag session) or 4 (too long).
@@ -117,10 +109,9 @@ impl TagSession {
                 session: self,
             };
         }
-        let inner = self.inner;
-        let outer = self.outer;
-        let adding = inner.add(piece);
+        let adding = self.inner.add(piece);
         let added = adding.session;
+        let outer = self.outer;
         TagAnswer {
             refusal: adding.refusal,
             session: TagSession {
@@ -135,12 +126,10 @@ impl TagSession {
         requires { ⌜ isTagSession self ≡ true ⌝ }
         ensures { λ r. ⌜ r ≡ closedBy self ⌝ }
     {
-        let inner = self.inner;
-        let outer = self.outer;
-        let n = (inner.bits / 8) as usize;
+        let n = (self.inner.bits / 8) as usize;
         let mut digest = [0u8; 64];
-        inner.read(&mut digest);
-        let adding = outer.add(&digest[..n]);
+        self.inner.read(&mut digest);
+        let adding = self.outer.add(&digest[..n]);
         adding.session
     }
 

@@ -18,17 +18,18 @@ use Rattle.echo.proofs.Laws.Opened.{add-nothing, opened-is-session}
 use Rattle.echo.proofs.Laws.Pieces.{no-digest-of-0-bits, opening-number, opens}
 use Rattle.hmac.specs.declared.key_block.KeyBlock.{KeyBlock}
 use Rattle.hmac.specs.declared.tag_session.TagAnswer.{TagAnswer}
-use Rattle.hmac.specs.declared.tag_session.TagSession.{TagSession}
 use Rattle.hmac.specs.Hmac.{keyBlock}
-use Rattle.hmac.specs.TagSession.{blankTag, keyedBy, openTagAnswer, openTagRefusal, openedTag}
+use Rattle.hmac.specs.TagSession.{keyedBy, openTagAnswer, openTagRefusal, openedTag, refusedTag}
 
 -- a session to which the block at the front of some bytes was added, xored with a pad
 abbrev begunWith : Session → List ℕ → ℕ → Session
 begunWith f bytes pad = let b = blockSize (f .bits) in addBytes f (xorBytes b (take b bytes) (replicate b pad))
 
-pub blank-is : (salt : List ℕ) (x : Answer) → x ≡ openAnswer 0 salt → _≡_ {A = TagSession} (record { inner = x .session; outer = x .session }) blankTag
-blank-is salt x e =
-    let b = ap (λ (y : Answer). y .session) e ∙ no-digest-of-0-bits salt in ap (λ (s : Session). record { inner = s; outer = s }) b
+pub refused-is : (number : ℕ) (salt : List ℕ) (x : Answer) → x ≡ openAnswer 0 salt
+    → _≡_ {A = TagAnswer} (record { refusal = number; session = record { inner = x .session; outer = x .session } }) (refusedTag number)
+refused-is number salt x e =
+    let none = ap (λ (y : Answer). y .session) e ∙ no-digest-of-0-bits salt in
+    ap (λ (s : Session). record { refusal = number; session = record { inner = s; outer = s } }) none
 
 module _ (h : ℕ) (salt key : List ℕ) (x : Answer) (e : x ≡ openAnswer h salt) where
   number : (a s : Bool) → admitted h ≡ a → eqb (length salt) 16 ≡ s → x .refusal ≡ firstOf ((1 when not a) ∷ (2 when not s) ∷ [])
@@ -36,17 +37,15 @@ module _ (h : ℕ) (salt key : List ℕ) (x : Answer) (e : x ≡ openAnswer h sa
       ap (λ (y : Answer). y .refusal) e ∙ opening-number h salt ∙ ap₂ (λ (b c : Bool). firstOf ((1 when not b) ∷ (2 when not c) ∷ [])) p q
 
   -- the digest layer refused the opening
-  pub opened-none : (x .refusal ≡ 0 → ⊥) → (t : TagSession) → t ≡ blankTag
-      → _≡_ {A = TagAnswer} (record { refusal = x .refusal; session = t }) (openTagAnswer h salt key)
+  pub opened-none : (x .refusal ≡ 0 → ⊥) → (r : TagAnswer) → r ≡ refusedTag (x .refusal) → r ≡ openTagAnswer h salt key
   unfolding openTagAnswer openTagRefusal
-  opened-none n t b = by (admitted h) (eqb (length salt) 16) refl refl
+  opened-none n r b = b ∙ by (admitted h) (eqb (length salt) 16) refl refl
     where
-      by : (a s : Bool) → admitted h ≡ a → eqb (length salt) 16 ≡ s
-          → _≡_ {A = TagAnswer} (record { refusal = x .refusal; session = t }) (openTagAnswer h salt key)
+      by : (a s : Bool) → admitted h ≡ a → eqb (length salt) 16 ≡ s → refusedTag (x .refusal) ≡ openTagAnswer h salt key
       by true true p q = absurd (n (number true true p q))
-      by true false p q = rw (number true false p q, p, q, b)
-      by false true p q = rw (number false true p q, p, b)
-      by false false p q = rw (number false false p q, p, b)
+      by true false p q = rw (number true false p q, p, q)
+      by false true p q = rw (number false true p q, p)
+      by false false p q = rw (number false false p q, p)
 
   module _ (z : x .refusal ≡ 0) where
     passed : (admitted h ≡ true) × (length salt ≡ 16)
@@ -75,13 +74,12 @@ module _ (h : ℕ) (salt key : List ℕ) (x : Answer) (e : x ≡ openAnswer h sa
     fresh-is-empty = ap (λ (s : Session). s .taken) fresh
 
     module _ (k : KeyBlock) (r : k .refusal ≡ either (ltb limit (length key)) 4 0) where
-      pub opened-long : (k .refusal ≡ 0 → ⊥) → (t : TagSession) → t ≡ blankTag
-          → _≡_ {A = TagAnswer} (record { refusal = k .refusal; session = t }) (openTagAnswer h salt key)
+      pub opened-long : (k .refusal ≡ 0 → ⊥) → (t : TagAnswer) → t ≡ refusedTag (k .refusal) → t ≡ openTagAnswer h salt key
       unfolding openTagAnswer openTagRefusal
-      opened-long n t b = by (ltb limit (length key)) refl
+      opened-long n t b = b ∙ by (ltb limit (length key)) refl
         where
-          by : (l : Bool) → ltb limit (length key) ≡ l → _≡_ {A = TagAnswer} (record { refusal = k .refusal; session = t }) (openTagAnswer h salt key)
-          by true p = rw (r, bits-pass, eq-eqb (length salt) 16 salt-passes, p, b)
+          by : (l : Bool) → ltb limit (length key) ≡ l → refusedTag (k .refusal) ≡ openTagAnswer h salt key
+          by true p = rw (r, bits-pass, eq-eqb (length salt) 16 salt-passes, p)
           by false p = absurd (n (r ∙ ap (λ (l : Bool). either {A = ℕ} l 4 0) p))
 
       pub opened-keyed : k .refusal ≡ 0

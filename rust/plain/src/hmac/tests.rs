@@ -136,6 +136,16 @@ fn every_input_counts() {
     );
 }
 
+/// What `examples/join.c` prints first; the gate looks it up here.
+#[test]
+fn the_tag_of_the_example_in_c() {
+    let tag = hmac(256, &[0; 16], &[0x0b; 16], b"join a2000007");
+    assert_eq!(
+        hex::encode(&tag),
+        "4b11a1cb7de137936d33f94ddc3bc0dec777cf58653e56eb30cfb935998b4720"
+    );
+}
+
 #[test]
 fn shorter_tags_are_no_cuts_of_longer_ones() {
     let tag = |bits| hmac(bits, &SALT, b"key", b"abc");

@@ -7,8 +7,8 @@ use Rattle.hmac.proofs.tag_session.TagSession.open.Tie as tie
 open-requires : tie.Need-open-requires
 open-requires c κs = search needs
 
-blank-requires : tie.Need-blank-requires
-blank-requires c κs = search needs
+refused-requires : tie.Need-refused-requires
+refused-requires c κs = search needs
 
 returns : tie.Need-returns
 returns c = search opened-none
@@ -16,8 +16,8 @@ returns c = search opened-none
 key-block-requires : tie.Need-key-block-requires
 key-block-requires c κs = (search bits-pass, search salt-passes)
 
-blank-requires-2 : tie.Need-blank-requires-2
-blank-requires-2 c κs = search needs
+refused-requires-2 : tie.Need-refused-requires-2
+refused-requires-2 c κs = search needs
 
 returns-2 : tie.Need-returns-2
 returns-2 c = search opened-long
@@ -36,10 +36,10 @@ open-spec =
     tie.close
     (tie.spec
     open-requires
-    blank-requires
+    refused-requires
     returns
     key-block-requires
-    blank-requires-2
+    refused-requires-2
     returns-2
     keyed-requires
     keyed-requires-2

@@ -6,7 +6,6 @@ use mathlib.Core.Bool.{false}
 use mathlib.Core.List.{List}
 use Prim.Native.Nat.{ℕ, suc}
 use lib.ListN.{length}
-use Rattle.echo.specs.Session.{blank}
 use Rattle.echo.proofs.Theorems.{the-blank-session-is-none}
 use Rattle.hmac.specs.declared.tag_session.TagSession.{TagSession}
 use Rattle.hmac.specs.Routines.{checkAnswer, checkRefusal, makeLeaves, makeRefusal}

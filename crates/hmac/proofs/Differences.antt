@@ -1,6 +1,6 @@
 -- Two wrong programs of must-fail/ change a definition, since the code could be made so only by a change of its shape. For each a point at which the
 -- definition and the changed one, which is written out, differ. Assumes nothing.
-use mathlib.Core.Path.{_≡_, sym, ap, _∙_}
+use mathlib.Core.Path.{_≡_, ap}
 use mathlib.Core.List.{List, [], _∷_, _++_}
 use Prim.Native.Nat.{ℕ, _+_}
 use native.Mathlib.Omega.{arith}

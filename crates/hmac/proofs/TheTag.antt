@@ -11,19 +11,15 @@ use native.Mathlib.Omega.{arith}
 use borrow.Author.Tests.{eq-eqb, le-ltb, ltb-false}
 use lib.Dec.{ltb}
 use lib.ListN.{drop, length, length-append}
-use Rattle.echo.specs.declared.session.Session.{Session}
 use Rattle.echo.specs.Digest.{digestOf}
-use Rattle.echo.specs.Families.{blockSize, either}
+use Rattle.echo.specs.Families.{blockSize}
 use Rattle.echo.specs.Pieces.{joined}
-use Rattle.echo.specs.Refusals.{unless}
 use Rattle.echo.specs.Session.{addBytes, admitted, isSession, limit, sessionDigest}
 use Rattle.echo.proofs.Laws.Families.{sizes}
 use Rattle.echo.proofs.Laws.Kept.{add-counts, add-is-session, add-keeps}
-use Rattle.echo.proofs.Laws.Opened.{add-nothing}
 use Rattle.echo.proofs.Laws.Pieces.{digest-long, joined-lengths, joined-more, joined-none}
 use Rattle.echo.proofs.Laws.Refusals.{done}
 use Rattle.echo.proofs.Laws.Sessions.{admitted-most}
-use Rattle.hmac.specs.declared.at_once.Verdict.{Verdict}
 use Rattle.hmac.specs.declared.tag_session.Checking.{Checking}
 use Rattle.hmac.specs.declared.tag_session.TagAnswer.{TagAnswer}
 use Rattle.hmac.specs.declared.tag_session.TagSession.{TagSession}

@@ -1,17 +1,17 @@
 -- Laws of the tag session's definitions, over plain records. Assumes nothing.
 use mathlib.Core.Path.{_≡_, refl, sym, ap, ap₂, _∙_}
-use mathlib.Core.Bool.{Bool, true, false, not, _&&_}
+use mathlib.Core.Bool.{Bool, true, false, not}
 use mathlib.Core.List.{List, _++_}
-use Prim.Native.Nat.{ℕ, _+_, _/_, _<_, _≤_}
+use Prim.Native.Nat.{ℕ, _+_, _/_, _≤_}
 use native.Mathlib.Omega.{arith}
-use borrow.Author.Tests.{eq-eqb, eqb-true, le-leb, le-ltb, leb-true, lt-ltb, ltb-false, ltb-true, ne-eqb, not-false, not-true}
+use borrow.Author.Tests.{eq-eqb, eqb-true, le-leb, leb-true, ltb-false, ltb-true, ne-eqb, not-false, not-true}
 use lib.Dec.{eqb, leb, ltb}
-use lib.ListN.{drop, length, length-replicate, replicate, take}
+use lib.ListN.{drop, length, replicate, take}
 use lib.Seq.{length-take-le, take-at}
 use Rattle.echo.specs.declared.session.Answer.{Answer}
 use Rattle.echo.specs.declared.session.Session.{Session}
 use Rattle.echo.specs.Families.{blockSize}
-use Rattle.echo.specs.Session.{addAnswer, addBytes, isSession, limit, readAnswer, readLeaves, sessionDigest}
+use Rattle.echo.specs.Session.{addAnswer, isSession, limit, readAnswer, readLeaves, sessionDigest}
 use Rattle.echo.proofs.Laws.Continued.{session-digest-long}
 use Rattle.echo.proofs.Laws.Families.{sizes}
 use Rattle.echo.proofs.Laws.Kept.{add-is-session, add-keeps}

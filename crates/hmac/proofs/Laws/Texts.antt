@@ -17,14 +17,13 @@ use Rattle.echo.proofs.Laws.Families.{sizes}
 use Rattle.echo.proofs.Laws.Kept.{add-keeps}
 use Rattle.echo.proofs.Laws.Opened.{add-pieces, opened-bits, opened-digest, opened-is-session, opened-taken}
 use Rattle.echo.proofs.Laws.Refusals.{done}
-use Rattle.hmac.specs.declared.tag_session.Checking.{Checking}
 use Rattle.hmac.specs.declared.tag_session.TagAnswer.{TagAnswer}
 use Rattle.hmac.specs.declared.tag_session.TagSession.{TagSession}
 use Rattle.hmac.specs.Hmac.{ipad, keyBlock, mac, opad, tagOf}
 use Rattle.hmac.specs.Same.{same}
 use Rattle.hmac.specs.TagSession.{addTagAnswer, addTagBytes, addTagRefusal, checkTagAnswer, checkTagRefusal, closedBy, isTagSession}
 use Rattle.hmac.specs.TagSession.{openTagAnswer, openTagRefusal, openedTag, readTagAnswer, readTagLeaves, readTagRefusal, sessionTag}
-use Rattle.hmac.proofs.Laws.TagSessions.{TagFits, fits-tag}
+use Rattle.hmac.proofs.Laws.TagSessions.{fits-tag}
 
 -- two pieces one after the other
 pub tag-pieces : (t : TagSession) (xs ys : List ℕ) → addTagBytes (addTagBytes t xs) ys ≡ addTagBytes t (xs ++ ys)

@@ -3,7 +3,7 @@
  * Link target/staticlib/libbahmorist.a, which `rt staticlib bahmorist` makes for x86-64 Linux; `tools/library` makes
  * target/native/libbahmorist.a for the machine at hand. The library keeps nothing between calls, allocates nothing and may be called from
  * several threads at once. As it is compiled today no call takes more than 8,000 bytes of stack, and those that make and check tags no more
- * than 14,000, what the C library's memcpy and memset take not counted; 4,096 of them are tables, which a build for a task with little stack does
+ * than 15,000, what the C library's memcpy and memset take not counted; 4,096 of them are tables, which a build for a task with little stack does
  * without (docs/DECISIONS.md, "Two paths"). The code for x86-64 uses the SSE2 registers, which a kernel has to save around a call.
  *
  * How long a call takes depends on the data, keys included: the substitution is in tables, and which entries are read depends on what is
@@ -12,7 +12,8 @@
  *
  * Each function answers 0, or the number that it refuses by (enum bahmorist_refusal). Where several apply the lowest is given, but between 9
  * and 10 that of the record nearer the table's front. A function that refuses writes to no buffer; bahmorist_fingerprint writes *place and
- * bahmorist_hmac_check writes *yes even then. What stands in a buffer after a refusal is no digest, so a compiler that can warns where an answer is not looked at.
+ * bahmorist_hmac_check writes *yes even then. What stands in a buffer after a refusal is no digest and no tag, so a compiler that can warns where
+ * an answer is not looked at.
  *
  * What a caller must give: a pointer and a length name that many bytes, which nothing else writes during the call. Memory that a function
  * writes (a pointer without const) overlaps none of its other arguments. Where a length is 0 nothing is read or written there, and any

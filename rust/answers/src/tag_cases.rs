@@ -51,6 +51,7 @@ fn cases() -> Vec<Case> {
     cases.extend(checks::cases(&mut generator));
     cases.extend(no_tag_sessions::cases(&mut generator));
     cases.extend(refused::cases(&mut generator));
+    cases.extend(whole::every_piece(&mut generator));
     cases
 }
 

@@ -231,6 +231,6 @@ fn the_files_hold_every_case() {
     let files = files();
     let bytes = HEADER * (cases.len() - on_sessions) + RECORD * on_sessions;
     assert_eq!(files[0].bytes.len(), bytes);
-    assert!(bytes < 260_000);
+    assert!(bytes < 280_000);
     assert_eq!(files[1].lines(), cases.len());
 }

@@ -49,6 +49,24 @@ pub fn done(generator: &mut Generator) -> Vec<Case> {
     cases
 }
 
+/// One message of each family, over two blocks with the key's, in pieces of every
+/// size up to all of it.
+pub fn every_piece(generator: &mut Generator) -> Vec<Case> {
+    let mut cases = Vec::new();
+    for bits in [256, 512] {
+        let b = family::of_bits(bits).block as u16;
+        let message = Case {
+            message_length: b + 9,
+            ..some_salt(generator, bits, 20)
+        };
+        cases.extend((1..=b + 9).map(|piece| Case {
+            piece,
+            ..message.clone()
+        }));
+    }
+    cases
+}
+
 /// Sizes of a key: none, one byte, both sides of a block, and several blocks.
 pub fn keys(b: u16) -> [u16; KEYS] {
     [0, 1, b - 1, b, b + 1, 1000]

@@ -1,5 +1,5 @@
 use super::*;
-use crate::tag_cases::whole::{done, keys, refused, CUTS};
+use crate::tag_cases::whole::{done, every_piece, keys, refused, CUTS};
 use std::collections::HashSet;
 
 fn all_done() -> Vec<Case> {
@@ -26,9 +26,11 @@ fn only_the_refused_cases_are_refused() {
         }
     }
     // Done are, for each of 49 digest lengths, two messages under each of six
-    // keys, in two cuts. Eight digest lengths are refused, twice with a salt of 16
-    // bytes and twice with another; and four for the salt alone, three times.
-    assert_eq!(counts, [49 * 6 * 2 * 2, 8 * 2 + 8 * 2, 4 * 3]);
+    // keys, in two cuts; and one message of each family in pieces of every size.
+    // Eight digest lengths are refused, twice with a salt of 16 bytes and twice
+    // with another; and four for the salt alone, three times.
+    let done = 49 * 6 * 2 * 2 + (192 + 9) + (128 + 9);
+    assert_eq!(counts, [done, 8 * 2 + 8 * 2, 4 * 3]);
 }
 
 #[test]
@@ -93,10 +95,23 @@ fn each_message_is_tagged_at_once_and_in_pieces() {
     }
 }
 
+#[test]
+fn a_message_of_each_family_is_cut_in_every_size() {
+    let cases = every_piece(&mut Generator::new(6));
+    for (bits, length) in [(256, 192 + 9), (512, 128 + 9)] {
+        let family = cases.iter().filter(|case| case.bits == bits);
+        let (lines, sizes): (HashSet<String>, Vec<u16>) =
+            family.map(|case| (case.line(), case.piece)).unzip();
+        assert_eq!(lines.len(), 1);
+        assert_eq!(sizes, (1..=length).collect::<Vec<u16>>());
+    }
+}
+
 /// What the program does with pieces, step by step.
 #[test]
 fn pieces_with_a_reading_and_a_check_behind_each_give_the_answer() {
-    for case in all_done() {
+    let cases = [all_done(), every_piece(&mut Generator::new(6))].concat();
+    for case in cases {
         if case.piece == 0 {
             continue;
         }

@@ -17,9 +17,10 @@ use Rattle.echo.specs.Families.{blockSize, chainingSize, roundCount}
 use Rattle.echo.specs.Padding.{padding}
 use Rattle.echo.specs.Session.{addAnswer, addBytes, allZero, finalChaining, isSession, limit, readAnswer, readLeaves, sessionDigest}
 use Rattle.echo.proofs.Laws.Families.{block-pos, sizes}
+use Rattle.echo.proofs.Laws.Kept.{add-is-session, add-keeps}
 use Rattle.echo.proofs.Laws.Sessions.{SessionFits, added, both, left-0, read-0, session-fits}
 use Rattle.echo.proofs.Laws.Stream.{length-turns, one-left}
-use Rattle.echo.proofs.Laws.States.{add-more, chained, made-eq, state-final, state-is-session, stateFrom}
+use Rattle.echo.proofs.Laws.States.{add-more, chained, made-eq, state-final, stateFrom}
 
 zeros-only : (l : List ℕ) → allZero l ≡ true → l ≡ replicate (length l) 0
 unfolding allZero
@@ -109,9 +110,7 @@ module _ (s : Session) (is : isSession s ≡ true) (lc : length (s .chaining) �
     count-is = omega (arith, length-append waits piece, counted)
 
     continued-is-session : isSession (addBytes s piece) ≡ true
-    continued-is-session =
-        ap isSession added-is
-        ∙ state-is-session h (s .salt) v rest q v-long (waits ++ piece) (fits .admits) (omega (arith, count-is)) (fits .chaining-zero)
+    continued-is-session = add-is-session s piece is fits-limit
 
     -- the paper's iteration from the record, over its waiting bytes, the piece and the padding
     abbrev final : List ℕ
@@ -129,8 +128,7 @@ module _ (s : Session) (is : isSession s ≡ true) (lc : length (s .chaining) �
         (append-assoc waits piece (padding b h n)))
 
     bits-stay : addBytes s piece .bits ≡ h
-    unfolding stateFrom
-    bits-stay = ap (λ (x : Session). x .bits) added-is
+    bits-stay = add-keeps s piece .0
 
     is-added : addAnswer s piece ≡ record { refusal = 0; session = addBytes s piece }
     is-added = sym (added s piece true (sym is) refl (addBytes s piece) refl (omega (arith, fits-limit)))

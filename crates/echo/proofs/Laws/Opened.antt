@@ -12,6 +12,7 @@ use Rattle.echo.specs.Digest.{block, blockCount, counterAt, digest, dige
 use Rattle.echo.specs.Families.{blockSize, chainingSize, roundCount}
 use Rattle.echo.specs.Padding.{pad, padding}
 use Rattle.echo.specs.Session.{addByte, addBytes, admitted, isSession, limit, opened, sessionDigest}
+use Rattle.echo.proofs.Laws.Kept.{add-counts, add-keeps}
 use Rattle.echo.proofs.Laws.States.{add-more, chained, state-final, state-is-session, stateFrom, zeros-are-zero}
 use Rattle.echo.proofs.Laws.Stream.{iterate-ext}
 
@@ -51,12 +52,10 @@ module _ (h : ℕ) (salt : List ℕ) where
   counted m = omega (arith, mul-zero (blockSize h))
 
   pub opened-taken : (m : List ℕ) → addBytes (opened h salt) m .taken ≡ length m
-  unfolding stateFrom
-  opened-taken m = ap (λ (s : Session). s .taken) (opened-state m) ∙ counted m
+  opened-taken m = add-counts (opened h salt) m ∙ zero-add (length m)
 
   pub opened-bits : (m : List ℕ) → addBytes (opened h salt) m .bits ≡ h
-  unfolding stateFrom
-  opened-bits m = ap (λ (s : Session). s .bits) (opened-state m)
+  opened-bits m = add-keeps (opened h salt) m .0
 
   pub opened-is-session : (m : List ℕ) → admitted h ≡ true → length m ≤ limit → isSession (addBytes (opened h salt) m) ≡ true
   unfolding unused

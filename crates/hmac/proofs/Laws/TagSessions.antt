@@ -117,6 +117,13 @@ module _ (t : TagSession) (piece : List ℕ) (a : Bool) (e : a ≡ isTagSession 
 
 -- ---- the outer session with the digest of the inner one
 
+-- the digest of any session fits 64 bytes
+digest-within : (s : Session) → isSession s ≡ true → (d : List ℕ) → length d ≡ 64 → s .bits / 8 ≤ length d
+digest-within s is d l = omega (arith, bits-most s true (sym is) refl)
+
+digest-count : (s : Session) → isSession s ≡ true → (d : List ℕ) → length d ≡ 64 → s .bits / 8 ≡ length (take (s .bits / 8) d)
+digest-count s is d l = sym (length-take-le (s .bits / 8) d (digest-within s is d l))
+
 -- a digest that was read into 64 bytes
 digest-read : (s : Session) → isSession s ≡ true → take (s .bits / 8) (readLeaves s (replicate 64 0)) ≡ sessionDigest s
 digest-read s is =
@@ -131,12 +138,11 @@ module _ (t : TagSession) (is : isTagSession t ≡ true) where
   most : t .inner .bits ≤ 512
   most = bits-most (t .inner) true (sym (fits .inner-is)) refl
 
-  -- the digest is read into 64 bytes
   pub inner-digest-within : (d : List ℕ) → length d ≡ 64 → t .inner .bits / 8 ≤ length d
-  inner-digest-within d l = omega (arith, most)
+  inner-digest-within = digest-within (t .inner) (fits .inner-is)
 
   pub inner-digest-count : (d : List ℕ) → length d ≡ 64 → t .inner .bits / 8 ≡ length (take (t .inner .bits / 8) d)
-  inner-digest-count d l = sym (length-take-le (t .inner .bits / 8) d (inner-digest-within d l))
+  inner-digest-count = digest-count (t .inner) (fits .inner-is)
 
   inner-digest-long : length (sessionDigest (t .inner)) ≡ t .inner .bits / 8
   inner-digest-long = session-digest-long (t .inner) most
@@ -215,12 +221,11 @@ module _ (t : TagSession) (a : Bool) (e : a ≡ isTagSession t) (holds : not a �
               ∙ sym (left-0 c room true (sym is) refl (omega (arith, size, ltb-false (length room) (t .outer .bits / 8) p)) _ refl)
               ∙ ap₂ (λ (s : Session) (n : ℕ). sessionDigest s ++ drop n room) d size)
 
-    -- the tag is read into 64 bytes
     pub own-tag-within : (own : List ℕ) → length own ≡ 64 → c .bits / 8 ≤ length own
-    own-tag-within own l = omega (arith, bits-most c true (sym is) refl)
+    own-tag-within = digest-within c is
 
     pub own-tag-count : (own : List ℕ) → length own ≡ 64 → c .bits / 8 ≡ length (take (c .bits / 8) own)
-    own-tag-count own l = sym (length-take-le (c .bits / 8) own (own-tag-within own l))
+    own-tag-count = digest-count c is
 
     pub checked-closed : (own tag : List ℕ) → own ≡ readLeaves c (replicate 64 0) → (says : Bool) → says ≡ same (take (c .bits / 8) own) tag
         → _≡_ {A = Checking} (record { refusal = 0; yes = says; session = t }) (checkTagAnswer t tag)

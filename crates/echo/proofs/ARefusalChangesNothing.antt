@@ -6,6 +6,7 @@ use mathlib.Core.Bool.{false}
 use mathlib.Core.List.{List}
 use Prim.Native.Nat.{ℕ, suc}
 use lib.ListN.{length}
+use Rattle.echo.specs.declared.mode.Mode.{Mode}
 use Rattle.echo.specs.declared.session.Session.{Session}
 use Rattle.echo.specs.Routines.{compressLeaves, compressRefusal, roundsBackLeave, roundsLeave, roundsRefusal}
 use Rattle.echo.specs.Session.{addAnswer, addRefusal, admitted, blank, digestLeaves, digestRefusal, isSession, openAnswer, openRefusal}
@@ -22,14 +23,14 @@ module _ (k : ℕ) where
     unfolding roundsBackLeave
     refused-rounds-back-leave-the-square = rw e refl
 
-  pub a-refused-compression-leaves-the-chaining-value : (chaining block : List ℕ) (counter : ℕ) (salt : List ℕ)
-      → compressRefusal (length chaining) (length block) counter (length salt) ≡ suc k → compressLeaves chaining block counter salt ≡ chaining
+  pub a-refused-compression-leaves-the-chaining-value : (mode : Mode) (chaining block : List ℕ) (counter : ℕ) (salt : List ℕ)
+      → compressRefusal mode (length chaining) (length block) counter (length salt) ≡ suc k → compressLeaves mode chaining block counter salt ≡ chaining
   unfolding compressLeaves
-  a-refused-compression-leaves-the-chaining-value chaining block counter salt e = rw e refl
+  a-refused-compression-leaves-the-chaining-value mode chaining block counter salt e = rw e refl
 
-  pub a-refused-opening-is-blank : (h : ℕ) (salt : List ℕ) → openRefusal h (length salt) ≡ suc k → openAnswer h salt .session ≡ blank
+  pub a-refused-opening-is-blank : (mode : Mode) (h : ℕ) (salt : List ℕ) → openRefusal h (length salt) ≡ suc k → openAnswer mode h salt .session ≡ blank
   unfolding openAnswer
-  a-refused-opening-is-blank h salt e = rw e refl
+  a-refused-opening-is-blank mode h salt e = rw e refl
 
   pub a-refused-piece-changes-nothing : (s : Session) (piece : List ℕ) → addRefusal s (length piece) ≡ suc k → addAnswer s piece .session ≡ s
   unfolding addAnswer
@@ -39,10 +40,10 @@ module _ (k : ℕ) where
   unfolding readLeaves
   a-refused-reading-leaves-the-room s room e = rw e refl
 
-  pub a-refused-digest-leaves-the-room : (h : ℕ) (salt message room : List ℕ) → digestRefusal h (length salt) (length message) (length room) ≡ suc k
-      → digestLeaves h salt message room ≡ room
+  pub a-refused-digest-leaves-the-room : (mode : Mode) (h : ℕ) (salt message room : List ℕ) → digestRefusal h (length salt) (length message) (length room) ≡ suc k
+      → digestLeaves mode h salt message room ≡ room
   unfolding digestLeaves
-  a-refused-digest-leaves-the-room h salt message room e = rw e refl
+  a-refused-digest-leaves-the-room mode h salt message room e = rw e refl
 
 pub the-blank-session-is-none : isSession blank ≡ false
 unfolding isSession admitted

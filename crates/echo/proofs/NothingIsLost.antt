@@ -9,6 +9,7 @@ use lib.ListN.{length}
 use Rattle.aes_round.specs.Bytes.{Bytes, xorBytes}
 use Rattle.aes_round.specs.Mixing.{forward}
 use Rattle.aes_round.proofs.Laws.Rounds.{mix-columns-xor, shift-xor}
+use Rattle.echo.specs.declared.mode.Mode.{Mode}
 use Rattle.echo.specs.Compression.{bigFinal, compress, fold}
 use Rattle.echo.specs.Families.{roundCount}
 use Rattle.echo.specs.Routines.{compressLeaves, compressRefusal, roundsBackLeave, roundsLeave}
@@ -57,24 +58,24 @@ pub column-mix-of-xor : (s t : List ℕ) → bigMixColumns (xorBytes 256 s t) �
 unfolding bigMixColumns
 column-mix-of-xor = mix-columns-xor 16 forward
 
--- for a chaining variable v of c bytes and a block m of so many parts of c bytes: c = 64 with 3 parts, c = 128 with 1
+-- for a chaining variable v of c bytes and a block m of so many parts of c bytes: c = 32 with 7 parts, c = 64 with 3, c = 128 with 1
 pub new-chaining-value : (c parts n start : ℕ) (salt v m : List ℕ) → 0 < c → length v ≡ c → length m ≡ c * parts
     → compress c n (keysFrom start) salt v m ≡ xorBytes c (fold c (v ++ m)) (fold c (rounds n (keysFrom start) salt (v ++ m)))
 unfolding compress bigFinal
 new-chaining-value c parts n start salt v m h lv lm =
     ap (λ (x : List ℕ). xorBytes c x (fold c (rounds n (keysFrom start) salt (v ++ m)))) (sym (fold-loaded c v m parts h lv lm))
 
--- what the routine leaves, wherever it refuses nothing
-pub compress-leaves-the-folds : (chaining block : List ℕ) (counter : ℕ) (salt : List ℕ)
-    → compressRefusal (length chaining) (length block) counter (length salt) ≡ 0
-    → compressLeaves chaining block counter salt
+-- what the routine leaves in either mode, wherever it refuses nothing
+pub compress-leaves-the-folds : (mode : Mode) (chaining block : List ℕ) (counter : ℕ) (salt : List ℕ)
+    → compressRefusal mode (length chaining) (length block) counter (length salt) ≡ 0
+    → compressLeaves mode chaining block counter salt
     ≡ xorBytes (length chaining) (fold (length chaining) (chaining ++ block))
-    (fold (length chaining) (rounds (roundCount (length chaining)) (keysFrom counter) salt (chaining ++ block)))
+    (fold (length chaining) (rounds (roundCount mode (length chaining)) (keysFrom counter) salt (chaining ++ block)))
 unfolding compressLeaves
-compress-leaves-the-folds chaining block counter salt z =
-    let some = compress-some chaining block counter salt _ refl z in
-    let square = compress-square chaining block counter salt _ refl z in
-    let parts = compress-parts chaining block counter salt _ refl z in
+compress-leaves-the-folds mode chaining block counter salt z =
+    let some = compress-some mode chaining block counter salt _ refl z in
+    let square = compress-square mode chaining block counter salt _ refl z in
+    let parts = compress-parts mode chaining block counter salt _ refl z in
     done _ _ chaining z
-    ∙ new-chaining-value (length chaining) (256 / length chaining - 1) (roundCount (length chaining)) counter salt chaining block some refl
+    ∙ new-chaining-value (length chaining) (256 / length chaining - 1) (roundCount mode (length chaining)) counter salt chaining block some refl
     (block-parts (length chaining) (length block) (256 / length chaining) square parts)

@@ -24,7 +24,8 @@ pub rounds-by-bytes-has-one-answer : (κs : _) (a : _) (r r′ : _) (s s′ : _)
     → (r ≡ r′) × (now (s .0) ≡ now (s′ .0))
 rounds-by-bytes-has-one-answer κs a r r′ s s′ p q = (p .0 ∙ sym (q .0), p .1 ∙ sym (q .1))
 
-pub compress-has-one-answer : (κs : _) (a : _) (r r′ : _) (s s′ : _) → compress.Post κs a r s → compress.Post κs a r′ s′ → (r ≡ r′) × (now (s .0) ≡ now (s′ .0))
+pub compress-has-one-answer : (κs : _) (a : _) (r r′ : _) (s s′ : _) → compress.Post κs a r s → compress.Post κs a r′ s′
+    → (r ≡ r′) × (now (s .1 .0) ≡ now (s′ .1 .0))
 compress-has-one-answer κs a r r′ s s′ p q = (p .0 ∙ sym (q .0), p .1 ∙ sym (q .1))
 
 pub open-has-one-answer : (κs : _) (a : _) (r r′ : _) (s s′ : _) → opening.Post κs a r s → opening.Post κs a r′ s′ → r ≡ r′
@@ -40,5 +41,5 @@ pub read-has-one-answer : (κs : _) (a : _) (r r′ : _) (s s′ : _) → read.P
 read-has-one-answer κs a r r′ s s′ p q = (p .0 ∙ sym (q .0), p .1 ∙ sym (q .1))
 
 pub digest-has-one-answer : (κs : _) (a : _) (r r′ : _) (s s′ : _) → digest.Post κs a r s → digest.Post κs a r′ s′
-    → (r ≡ r′) × (now (s .1 .1 .1 .0) ≡ now (s′ .1 .1 .1 .0))
+    → (r ≡ r′) × (now (s .1 .1 .1 .1 .0) ≡ now (s′ .1 .1 .1 .1 .0))
 digest-has-one-answer κs a r r′ s s′ p q = (p .0 ∙ sym (q .0), p .1 ∙ sym (q .1))

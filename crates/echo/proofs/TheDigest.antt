@@ -8,6 +8,7 @@ use mathlib.Core.List.{List, [], _∷_, _++_, append-assoc, append-nil}
 use Prim.Native.Nat.{ℕ, zero, suc, _/_, _≤_}
 use native.Mathlib.Omega.{arith}
 use lib.ListN.{drop, length, length-append}
+use Rattle.echo.specs.declared.mode.Mode.{Mode}
 use Rattle.echo.specs.declared.session.Answer.{Answer}
 use Rattle.echo.specs.declared.session.Session.{Session}
 use Rattle.echo.specs.Digest.{digestOf}
@@ -30,24 +31,24 @@ an-empty-piece-changes-nothing s = by (addRefusal s 0) refl
     by zero e = rw e (add-nothing s)
     by (suc n) e = rw e refl
 
-module _ (h : ℕ) (salt : List ℕ) (a : admitted h ≡ true) (l : length salt ≡ 16) where
+module _ (mode : Mode) (h : ℕ) (salt : List ℕ) (a : admitted h ≡ true) (l : length salt ≡ 16) where
   -- the session to which a message was added
   abbrev holding : List ℕ → Session
-  holding m = addBytes (opened h salt) m
+  holding m = addBytes (opened mode h salt) m
 
-  pub an-opening-opens : openAnswer h salt ≡ record { refusal = 0; session = opened h salt }
-  an-opening-opens = opens h salt a l
+  pub an-opening-opens : openAnswer mode h salt ≡ record { refusal = 0; session = opened mode h salt }
+  an-opening-opens = opens mode h salt a l
 
-  pub an-opening-is-taken : openAnswer h salt .refusal ≡ 0
+  pub an-opening-is-taken : openAnswer mode h salt .refusal ≡ 0
   an-opening-is-taken = ap (λ (x : Answer). x .refusal) an-opening-opens
 
   -- a piece is joined to the end of the bytes added
   pub a-piece-is-joined : (m piece : List ℕ) → length (m ++ piece) ≤ limit
       → addAnswer (holding m) piece ≡ record { refusal = 0; session = holding (m ++ piece) }
-  a-piece-is-joined m piece fits = takes h salt a m piece (omega (arith, length-append m piece, fits))
+  a-piece-is-joined m piece fits = takes mode h salt a m piece (omega (arith, length-append m piece, fits))
 
-  opened-session : openAnswer h salt .session ≡ holding []
-  opened-session = ap (λ (x : Answer). x .session) an-opening-opens ∙ sym (add-nothing (opened h salt))
+  opened-session : openAnswer mode h salt .session ≡ holding []
+  opened-session = ap (λ (x : Answer). x .session) an-opening-opens ∙ sym (add-nothing (opened mode h salt))
 
   all-joined : (m : List ℕ) (pieces : List (List ℕ)) → length (m ++ joined pieces) ≤ limit → addAll (holding m) pieces ≡ holding (m ++ joined pieces)
   unfolding joined addAll
@@ -60,12 +61,12 @@ module _ (h : ℕ) (salt : List ℕ) (a : admitted h ≡ true) (l : length salt 
       ∙ ap holding (append-assoc m piece (joined pieces))
 
   -- the session of all pieces is that of the message in one piece
-  pub pieces-are-one : (pieces : List (List ℕ)) → length (joined pieces) ≤ limit → addAll (openAnswer h salt .session) pieces ≡ holding (joined pieces)
+  pub pieces-are-one : (pieces : List (List ℕ)) → length (joined pieces) ≤ limit → addAll (openAnswer mode h salt .session) pieces ≡ holding (joined pieces)
   pieces-are-one pieces fits = ap (λ (s : Session). addAll s pieces) opened-session ∙ all-joined [] pieces fits
 
   -- no piece is refused
   pub every-piece-is-taken : (before : List (List ℕ)) (piece : List ℕ) (after : List (List ℕ)) → length (joined (before ++ piece ∷ after)) ≤ limit
-      → addAnswer (addAll (openAnswer h salt .session) before) piece .refusal ≡ 0
+      → addAnswer (addAll (openAnswer mode h salt .session) before) piece .refusal ≡ 0
   unfolding joined
   every-piece-is-taken before piece after fits =
       let short : length (joined before ++ piece) ≤ limit =
@@ -76,18 +77,18 @@ module _ (h : ℕ) (salt : List ℕ) (a : admitted h ≡ true) (l : length salt 
   module _ (pieces : List (List ℕ)) (fits : length (joined pieces) ≤ limit) (room : List ℕ) (r : h / 8 ≤ length room) where
     -- reading is not refused, and leaves the digest
     pub however-cut-the-digest-is-the-papers :
-        (readAnswer (addAll (openAnswer h salt .session) pieces) (length room) .refusal ≡ 0)
-        × (readLeaves (addAll (openAnswer h salt .session) pieces) room ≡ digestOf h salt (joined pieces) ++ drop (h / 8) room)
+        (readAnswer (addAll (openAnswer mode h salt .session) pieces) (length room) .refusal ≡ 0)
+        × (readLeaves (addAll (openAnswer mode h salt .session) pieces) room ≡ digestOf mode h salt (joined pieces) ++ drop (h / 8) room)
     however-cut-the-digest-is-the-papers =
-        let R = reads h salt a (joined pieces) room fits r in (
+        let R = reads mode h salt a (joined pieces) room fits r in (
           ap (λ (s : Session). readAnswer s (length room) .refusal) (pieces-are-one pieces fits) ∙ ap (λ (x : Answer). x .refusal) (R .0),
           ap (λ (s : Session). readLeaves s room) (pieces-are-one pieces fits) ∙ R .1,
         )
 
   -- and so does the digest at once
   pub at-once-is-the-digest : (message room : List ℕ) → length message ≤ limit → h / 8 ≤ length room
-      → (digestRefusal h (length salt) (length message) (length room) ≡ 0) × (digestLeaves h salt message room ≡ digestOf h salt message ++ drop (h / 8) room)
+      → (digestRefusal h (length salt) (length message) (length room) ≡ 0) × (digestLeaves mode h salt message room ≡ digestOf mode h salt message ++ drop (h / 8) room)
   unfolding digestLeaves
   at-once-is-the-digest message room m r =
       let n = sym (digest-0 h (length salt) (length message) (length room) true (sym a) refl l m r) in
-      (n, done _ (digestOf h salt message ++ drop (h / 8) room) room n)
+      (n, done _ (digestOf mode h salt message ++ drop (h / 8) room) room n)

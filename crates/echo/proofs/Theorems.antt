@@ -13,6 +13,8 @@ use Rattle.aes_round.specs.Mixing.{forward, mixColumn}
 use Rattle.aes_round.specs.Numbers.{numbers}
 use Rattle.aes_round.specs.Substitution.{subByte}
 use Rattle.aes_round.proofs.Theorems as aes-round
+use Rattle.echo.specs.declared.mode.Mode.{Mode}
+use Rattle.echo.specs.declared.mode.Mode.the-variants.{DoublePipe, SinglePipe}
 use Rattle.echo.specs.declared.session.Session.{Session}
 use Rattle.echo.specs.Compression.{compress, fold}
 use Rattle.echo.specs.Digest.{block, blockCount, counterAt, digestOf, iterate}
@@ -61,12 +63,12 @@ pub refused-rounds-back-leave-the-square : (k : ℕ) (square : List ℕ) (count 
     → roundsBackLeave square count counter salt ≡ square
 refused-rounds-back-leave-the-square = refusing.refused-rounds-back-leave-the-square
 
-pub a-refused-compression-leaves-the-chaining-value : (k : ℕ) (chaining block : List ℕ) (counter : ℕ) (salt : List ℕ)
-    → compressRefusal (length chaining) (length block) counter (length salt) ≡ suc k
-    → compressLeaves chaining block counter salt ≡ chaining
+pub a-refused-compression-leaves-the-chaining-value : (k : ℕ) (mode : Mode) (chaining block : List ℕ) (counter : ℕ) (salt : List ℕ)
+    → compressRefusal mode (length chaining) (length block) counter (length salt) ≡ suc k
+    → compressLeaves mode chaining block counter salt ≡ chaining
 a-refused-compression-leaves-the-chaining-value = refusing.a-refused-compression-leaves-the-chaining-value
 
-pub a-refused-opening-is-blank : (k h : ℕ) (salt : List ℕ) → openRefusal h (length salt) ≡ suc k → openAnswer h salt .session ≡ blank
+pub a-refused-opening-is-blank : (k : ℕ) (mode : Mode) (h : ℕ) (salt : List ℕ) → openRefusal h (length salt) ≡ suc k → openAnswer mode h salt .session ≡ blank
 a-refused-opening-is-blank = refusing.a-refused-opening-is-blank
 
 pub the-blank-session-is-none : isSession blank ≡ false
@@ -83,47 +85,47 @@ a-refused-reading-leaves-the-room = refusing.a-refused-reading-leaves-the-room
 pub reading-changes-nothing : (s : Session) (room : ℕ) → readAnswer s room .session ≡ s
 reading-changes-nothing = digest.reading-changes-nothing
 
-pub a-refused-digest-leaves-the-room : (k h : ℕ) (salt message room : List ℕ)
+pub a-refused-digest-leaves-the-room : (k : ℕ) (mode : Mode) (h : ℕ) (salt message room : List ℕ)
     → digestRefusal h (length salt) (length message) (length room) ≡ suc k
-    → digestLeaves h salt message room ≡ room
+    → digestLeaves mode h salt message room ≡ room
 a-refused-digest-leaves-the-room = refusing.a-refused-digest-leaves-the-room
 
 -- ---- the digest is the paper's
 
-pub however-cut-the-digest-is-the-papers : (h : ℕ) (salt : List ℕ) (pieces : List (List ℕ)) (room : List ℕ)
+pub however-cut-the-digest-is-the-papers : (mode : Mode) (h : ℕ) (salt : List ℕ) (pieces : List (List ℕ)) (room : List ℕ)
     → admitted h ≡ true
     → length salt ≡ 16
     → length (joined pieces) ≤ limit
     → h / 8 ≤ length room
-    → (readAnswer (addAll (openAnswer h salt .session) pieces) (length room) .refusal ≡ 0)
-    × (readLeaves (addAll (openAnswer h salt .session) pieces) room ≡ digestOf h salt (joined pieces) ++ drop (h / 8) room)
-however-cut-the-digest-is-the-papers h salt pieces room a l m r = digest.however-cut-the-digest-is-the-papers h salt a l pieces m room r
+    → (readAnswer (addAll (openAnswer mode h salt .session) pieces) (length room) .refusal ≡ 0)
+    × (readLeaves (addAll (openAnswer mode h salt .session) pieces) room ≡ digestOf mode h salt (joined pieces) ++ drop (h / 8) room)
+however-cut-the-digest-is-the-papers mode h salt pieces room a l m r = digest.however-cut-the-digest-is-the-papers mode h salt a l pieces m room r
 
-pub an-opening-is-taken : (h : ℕ) (salt : List ℕ) → admitted h ≡ true → length salt ≡ 16 → openAnswer h salt .refusal ≡ 0
+pub an-opening-is-taken : (mode : Mode) (h : ℕ) (salt : List ℕ) → admitted h ≡ true → length salt ≡ 16 → openAnswer mode h salt .refusal ≡ 0
 an-opening-is-taken = digest.an-opening-is-taken
 
-pub every-piece-is-taken : (h : ℕ) (salt : List ℕ) (before : List (List ℕ)) (piece : List ℕ) (after : List (List ℕ))
+pub every-piece-is-taken : (mode : Mode) (h : ℕ) (salt : List ℕ) (before : List (List ℕ)) (piece : List ℕ) (after : List (List ℕ))
     → admitted h ≡ true
     → length salt ≡ 16
     → length (joined (before ++ piece ∷ after)) ≤ limit
-    → addAnswer (addAll (openAnswer h salt .session) before) piece .refusal ≡ 0
-every-piece-is-taken h salt before piece after a l m = digest.every-piece-is-taken h salt a l before piece after m
+    → addAnswer (addAll (openAnswer mode h salt .session) before) piece .refusal ≡ 0
+every-piece-is-taken mode h salt before piece after a l m = digest.every-piece-is-taken mode h salt a l before piece after m
 
-pub at-once-is-the-digest : (h : ℕ) (salt message room : List ℕ)
+pub at-once-is-the-digest : (mode : Mode) (h : ℕ) (salt message room : List ℕ)
     → admitted h ≡ true
     → length salt ≡ 16
     → length message ≤ limit
     → h / 8 ≤ length room
     → (digestRefusal h (length salt) (length message) (length room) ≡ 0)
-    × (digestLeaves h salt message room ≡ digestOf h salt message ++ drop (h / 8) room)
-at-once-is-the-digest h salt message room a l m r = digest.at-once-is-the-digest h salt a l message room m r
+    × (digestLeaves mode h salt message room ≡ digestOf mode h salt message ++ drop (h / 8) room)
+at-once-is-the-digest mode h salt message room a l m r = digest.at-once-is-the-digest mode h salt a l message room m r
 
-pub a-piece-is-joined : (h : ℕ) (salt m piece : List ℕ)
+pub a-piece-is-joined : (mode : Mode) (h : ℕ) (salt m piece : List ℕ)
     → admitted h ≡ true
     → length salt ≡ 16
     → length (m ++ piece) ≤ limit
-    → addAnswer (addBytes (opened h salt) m) piece ≡ record { refusal = 0; session = addBytes (opened h salt) (m ++ piece) }
-a-piece-is-joined h salt m piece a l f = digest.a-piece-is-joined h salt a l m piece f
+    → addAnswer (addBytes (opened mode h salt) m) piece ≡ record { refusal = 0; session = addBytes (opened mode h salt) (m ++ piece) }
+a-piece-is-joined mode h salt m piece a l f = digest.a-piece-is-joined mode h salt a l m piece f
 
 pub an-empty-piece-changes-nothing : (s : Session) → addAnswer s [] .session ≡ s
 an-empty-piece-changes-nothing = digest.an-empty-piece-changes-nothing
@@ -132,7 +134,7 @@ an-empty-piece-changes-nothing = digest.an-empty-piece-changes-nothing
 pub every-session-continues-the-iteration : (s : Session) (piece room : List ℕ)
     → isSession s ≡ true
     → length (s .chaining) ≡ 128
-    → length (s .waiting) ≡ 192
+    → length (s .waiting) ≡ 224
     → s .taken + length piece ≤ limit
     → s .bits / 8 ≤ length room
     → (addAnswer s piece .refusal ≡ 0)
@@ -140,12 +142,12 @@ pub every-session-continues-the-iteration : (s : Session) (piece room : List ℕ
     × (readAnswer (addAnswer s piece .session) (length room) .refusal ≡ 0)
     × (readLeaves (addAnswer s piece .session) room
     ≡ take (s .bits / 8)
-    (iterate (chainingSize (s .bits)) (roundCount (chainingSize (s .bits))) (s .salt)
-    (take (chainingSize (s .bits)) (s .chaining))
-    (block (blockSize (s .bits))
-    (take (s .taken % blockSize (s .bits)) (s .waiting) ++ (piece ++ padding (blockSize (s .bits)) (s .bits) (s .taken + length piece))))
-    (λ i. counterAt (blockSize (s .bits)) (s .taken + length piece) (s .taken / blockSize (s .bits) + i))
-    (blockCount (blockSize (s .bits)) (s .taken + length piece) - s .taken / blockSize (s .bits)))
+    (iterate (chainingSize (s .mode) (s .bits)) (roundCount (s .mode) (chainingSize (s .mode) (s .bits))) (s .salt)
+    (take (chainingSize (s .mode) (s .bits)) (s .chaining))
+    (block (blockSize (s .mode) (s .bits))
+    (take (s .taken % blockSize (s .mode) (s .bits)) (s .waiting) ++ (piece ++ padding (blockSize (s .mode) (s .bits)) (s .bits) (s .taken + length piece))))
+    (λ i. counterAt (blockSize (s .mode) (s .bits)) (s .taken + length piece) (s .taken / blockSize (s .mode) (s .bits) + i))
+    (blockCount (blockSize (s .mode) (s .bits)) (s .taken + length piece) - s .taken / blockSize (s .mode) (s .bits)))
     ++ drop (s .bits / 8) room)
 every-session-continues-the-iteration s piece room is c w l r = continued.continues s is c w piece l room r
 
@@ -166,10 +168,10 @@ pub the-marked-examples-hold : (s : List ℕ) → Hold
     ∷ (word (bigShiftRows s) 5 gives word s 9)
     ∷ (word (bigShiftRows s) 13 gives word s 1)
     ∷ (word (bigShiftRows s) 3 gives word s 15)
-    ∷ (tab (blockCount (blockSize 256) 174) (counterAt (blockSize 256) 174) gives (1392 ∷ 0 ∷ []))
-    ∷ (tab (blockCount (blockSize 256) 192) (counterAt (blockSize 256) 192) gives (1536 ∷ 0 ∷ []))
-    ∷ (pad (blockSize 256) 256 [] gives (0x80 ∷ (replicate 173 0 ++ (0x00 ∷ 0x01 ∷ replicate 16 0))))
-    ∷ (pad (blockSize 256) 256 (0x61 ∷ 0x62 ∷ 0x63 ∷ [])
+    ∷ (tab (blockCount (blockSize DoublePipe 256) 174) (counterAt (blockSize DoublePipe 256) 174) gives (1392 ∷ 0 ∷ []))
+    ∷ (tab (blockCount (blockSize DoublePipe 256) 192) (counterAt (blockSize DoublePipe 256) 192) gives (1536 ∷ 0 ∷ []))
+    ∷ (pad (blockSize DoublePipe 256) 256 [] gives (0x80 ∷ (replicate 173 0 ++ (0x00 ∷ 0x01 ∷ replicate 16 0))))
+    ∷ (pad (blockSize DoublePipe 256) 256 (0x61 ∷ 0x62 ∷ 0x63 ∷ [])
     gives (0x61 ∷ 0x62 ∷ 0x63 ∷ 0x80 ∷ (replicate 170 0 ++ (0x00 ∷ 0x01 ∷ 0x18 ∷ replicate 15 0))))
     ∷ [])
 the-marked-examples-hold s =
@@ -270,7 +272,7 @@ row-shift-of-xor = mixing.row-shift-of-xor
 pub column-mix-of-xor : (s t : List ℕ) → bigMixColumns (xorBytes 256 s t) ≡ xorBytes 256 (bigMixColumns s) (bigMixColumns t)
 column-mix-of-xor = mixing.column-mix-of-xor
 
--- a chaining variable v of c bytes and a block m of so many parts of c bytes: c = 64 with 3 parts, c = 128 with 1
+-- a chaining variable v of c bytes and a block m of so many parts of c bytes: c = 32 with 7 parts, c = 64 with 3, c = 128 with 1
 pub new-chaining-value : (c parts n start : ℕ) (salt v m : List ℕ)
     → 0 < c
     → length v ≡ c
@@ -278,12 +280,12 @@ pub new-chaining-value : (c parts n start : ℕ) (salt v m : List ℕ)
     → compress c n (keysFrom start) salt v m ≡ xorBytes c (fold c (v ++ m)) (fold c (rounds n (keysFrom start) salt (v ++ m)))
 new-chaining-value = mixing.new-chaining-value
 
--- the same of what the routine leaves
-pub compress-leaves-the-folds : (chaining block : List ℕ) (counter : ℕ) (salt : List ℕ)
-    → compressRefusal (length chaining) (length block) counter (length salt) ≡ 0
-    → compressLeaves chaining block counter salt
+-- the same of what the routine leaves, in either mode
+pub compress-leaves-the-folds : (mode : Mode) (chaining block : List ℕ) (counter : ℕ) (salt : List ℕ)
+    → compressRefusal mode (length chaining) (length block) counter (length salt) ≡ 0
+    → compressLeaves mode chaining block counter salt
     ≡ xorBytes (length chaining) (fold (length chaining) (chaining ++ block))
-    (fold (length chaining) (rounds (roundCount (length chaining)) (keysFrom counter) salt (chaining ++ block)))
+    (fold (length chaining) (rounds (roundCount mode (length chaining)) (keysFrom counter) salt (chaining ++ block)))
 compress-leaves-the-folds = mixing.compress-leaves-the-folds
 
 -- the fold in words

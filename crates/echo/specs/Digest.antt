@@ -5,6 +5,7 @@ use Prim.Native.Nat.{ℕ, zero, suc, _+_, _*_, _/_, _%_, _^_, min}
 use lib.Dec.{ltb}
 use lib.ListN.{drop, length, take}
 use Rattle.aes_round.specs.Bytes.{tab}
+use Rattle.echo.specs.declared.mode.Mode.{Mode}
 use Rattle.echo.specs.Compression.{compress}
 use Rattle.echo.specs.Families.{blockSize, chainingSize, either, roundCount}
 use Rattle.echo.specs.Padding.{pad}
@@ -36,6 +37,6 @@ unfoldable pub digest : ℕ → ℕ → ℕ → ℕ → List ℕ → List ℕ �
 digest c b r h salt message =
     take (h / 8) (iterate c r salt (initial c h) (block b (pad b h message)) (counterAt b (length message)) (blockCount b (length message)))
 
--- 2: the digest of h bits, by its family
-unfoldable pub digestOf : ℕ → List ℕ → List ℕ → List ℕ
-digestOf h salt message = digest (chainingSize h) (blockSize h) (roundCount (chainingSize h)) h salt message
+-- 2, 5: the digest of h bits in a mode
+unfoldable pub digestOf : Mode → ℕ → List ℕ → List ℕ → List ℕ
+digestOf mode h salt message = digest (chainingSize mode h) (blockSize mode h) (roundCount mode (chainingSize mode h)) h salt message

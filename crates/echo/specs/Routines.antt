@@ -4,6 +4,7 @@ use mathlib.Core.List.{List, [], _∷_}
 use Prim.Native.Nat.{ℕ}
 use lib.Dec.{eqb}
 use lib.ListN.{length}
+use Rattle.echo.specs.declared.mode.Mode.{Mode}
 use Rattle.echo.specs.Families.{roundCount, sizesFit}
 use Rattle.echo.specs.Refusals.{_when_, counterTooHigh, firstOf, noSalt, unless}
 use Rattle.echo.specs.Square.{keysFrom, rounds, roundsBack}
@@ -29,15 +30,15 @@ roundsBackLeave square count counter salt =
 
 -- ---- compression
 
-unfoldable pub compressRefusal : ℕ → ℕ → ℕ → ℕ → ℕ
-compressRefusal chainingLength blockLength counter saltLength =
+unfoldable pub compressRefusal : Mode → ℕ → ℕ → ℕ → ℕ → ℕ
+compressRefusal mode chainingLength blockLength counter saltLength =
     firstOf
     ((2 when noSalt saltLength)
-    ∷ (6 when not (sizesFit chainingLength blockLength))
+    ∷ (6 when not (sizesFit mode chainingLength blockLength))
     ∷ (7 when counterTooHigh counter)
     ∷ [])
 
-unfoldable pub compressLeaves : List ℕ → List ℕ → ℕ → List ℕ → List ℕ
-compressLeaves chaining block counter salt =
-    unless (compressRefusal (length chaining) (length block) counter (length salt))
-    (compress (length chaining) (roundCount (length chaining)) (keysFrom counter) salt chaining block) chaining
+unfoldable pub compressLeaves : Mode → List ℕ → List ℕ → ℕ → List ℕ → List ℕ
+compressLeaves mode chaining block counter salt =
+    unless (compressRefusal mode (length chaining) (length block) counter (length salt))
+    (compress (length chaining) (roundCount mode (length chaining)) (keysFrom counter) salt chaining block) chaining

@@ -4,6 +4,8 @@ use mathlib.Core.List.{List, [], _∷_, _++_}
 use Prim.Native.Nat.{ℕ, _+_, _*_, _-_, _/_, _%_, _^_}
 use lib.Dec.{eqb, leb, ltb}
 use lib.ListN.{drop, length, replicate, set, take}
+use Rattle.echo.specs.declared.mode.Mode.{Mode}
+use Rattle.echo.specs.declared.mode.Mode.the-variants.{DoublePipe}
 use Rattle.echo.specs.declared.session.Answer.{Answer}
 use Rattle.echo.specs.declared.session.Session.{Session}
 use Rattle.echo.specs.Compression.{compress}
@@ -26,68 +28,71 @@ unfoldable pub allZero : List ℕ → Bool
 allZero [] = true
 allZero (x ∷ xs) = eqb x 0 && allZero xs
 
--- h is admitted, the count is at most the limit, waiting bytes beyond those in use are zero, and so is the chaining room that the family
--- doesn't use
+-- h is admitted, the count is at most the limit, waiting bytes beyond those in use are zero, and so is the chaining room that mode and h
+-- don't use
 unfoldable pub isSession : Session → Bool
 isSession s =
     admitted (s .bits)
     && (leb (s .taken) limit
-    && (allZero (drop (s .taken % blockSize (s .bits)) (s .waiting)) && allZero (drop (chainingSize (s .bits)) (s .chaining))))
+    && (allZero (drop (s .taken % blockSize (s .mode) (s .bits)) (s .waiting)) && allZero (drop (chainingSize (s .mode) (s .bits)) (s .chaining))))
 
 -- a session of its parts, for contracts of private functions
-abbrev pub made : ℕ → List ℕ → List ℕ → ℕ → List ℕ → Session
-made bits salt chaining taken waiting = record { bits = bits; salt = salt; chaining = chaining; taken = taken; waiting = waiting }
+abbrev pub made : Mode → ℕ → List ℕ → List ℕ → ℕ → List ℕ → Session
+made mode bits salt chaining taken waiting = record { mode = mode; bits = bits; salt = salt; chaining = chaining; taken = taken; waiting = waiting }
 
 -- ---- opening
 
--- all zero, and no session
+-- double-pipe, else all zero, and no session
 abbrev pub blank : Session
-blank = record { bits = 0; salt = replicate 16 0; chaining = replicate 128 0; taken = 0; waiting = replicate 192 0 }
+blank = record { mode = DoublePipe; bits = 0; salt = replicate 16 0; chaining = replicate 128 0; taken = 0; waiting = replicate 224 0 }
 
-abbrev pub opened : ℕ → List ℕ → Session
-opened h salt = record {
+abbrev pub opened : Mode → ℕ → List ℕ → Session
+opened mode h salt = record {
+  mode = mode;
   bits = h;
   salt = salt;
-  chaining = initial (chainingSize h) h ++ replicate (128 - chainingSize h) 0;
+  chaining = initial (chainingSize mode h) h ++ replicate (128 - chainingSize mode h) 0;
   taken = 0;
-  waiting = replicate 192 0;
+  waiting = replicate 224 0;
 }
 
 unfoldable pub openRefusal : ℕ → ℕ → ℕ
 openRefusal h saltLength = firstOf ((1 when not (admitted h)) ∷ (2 when noSalt saltLength) ∷ [])
 
-unfoldable pub openAnswer : ℕ → List ℕ → Answer
-openAnswer h salt =
+unfoldable pub openAnswer : Mode → ℕ → List ℕ → Answer
+openAnswer mode h salt =
     let refusal = openRefusal h (length salt) in
-    record { refusal = refusal; session = unless refusal (opened h salt) blank }
+    record { refusal = refusal; session = unless refusal (opened mode h salt) blank }
 
 -- ---- adding
 
 -- the waiting block with one byte more, behind those in use
 abbrev pub waitingWith : Session → ℕ → List ℕ
-waitingWith s x = set (s .waiting) (s .taken % blockSize (s .bits)) x
+waitingWith s x = set (s .waiting) (s .taken % blockSize (s .mode) (s .bits)) x
 
 -- chaining room whose variable has taken a block with a counter
-abbrev pub compressed : ℕ → List ℕ → List ℕ → ℕ → List ℕ → List ℕ
-compressed h salt chaining counter m =
-    compress (chainingSize h) (roundCount (chainingSize h)) (keysFrom counter) salt (take (chainingSize h) chaining) m ++ drop (chainingSize h) chaining
+abbrev pub compressed : Mode → ℕ → List ℕ → List ℕ → ℕ → List ℕ → List ℕ
+compressed mode h salt chaining counter m =
+    let c = chainingSize mode h in
+    compress c (roundCount mode c) (keysFrom counter) salt (take c chaining) m ++ drop c chaining
 
 -- one byte that fills the waiting block: it is compressed, with the number of message bits taken by its end as its counter
 abbrev pub filledBy : Session → ℕ → Session
 filledBy s x = record {
+  mode = s .mode;
   bits = s .bits;
   salt = s .salt;
-  chaining = compressed (s .bits) (s .salt) (s .chaining) (8 * (s .taken + 1)) (take (blockSize (s .bits)) (waitingWith s x));
+  chaining = compressed (s .mode) (s .bits) (s .salt) (s .chaining) (8 * (s .taken + 1)) (take (blockSize (s .mode) (s .bits)) (waitingWith s x));
   taken = s .taken + 1;
-  waiting = replicate 192 0;
+  waiting = replicate 224 0;
 }
 
 abbrev pub longerBy : Session → ℕ → Session
-longerBy s x = record { bits = s .bits; salt = s .salt; chaining = s .chaining; taken = s .taken + 1; waiting = waitingWith s x }
+longerBy s x = record { mode = s .mode; bits = s .bits; salt = s .salt; chaining = s .chaining; taken = s .taken + 1; waiting = waitingWith s x }
 
 -- a block is compressed as soon as it is full
 unfoldable pub addByte : Session → ℕ → Session
-addByte s x = either (eqb (s .taken % blockSize (s .bits) + 1) (blockSize (s .bits))) (filledBy s x) (longerBy s x)
+addByte s x = either (eqb (s .taken % blockSize (s .mode) (s .bits) + 1) (blockSize (s .mode) (s .bits))) (filledBy s x) (longerBy s x)
 
 unfoldable pub addBytes : Session → List ℕ → Session
 addBytes s [] = s
@@ -106,10 +111,10 @@ addAnswer s piece =
 -- the paper's iteration, continued from the chaining value, n and the waiting bytes, over the blocks that are left
 unfoldable pub finalChaining : Session → List ℕ
 finalChaining s =
-    let b = blockSize (s .bits) in
-    let c = chainingSize (s .bits) in
+    let b = blockSize (s .mode) (s .bits) in
+    let c = chainingSize (s .mode) (s .bits) in
     let n = s .taken in
-    iterate c (roundCount c) (s .salt) (take c (s .chaining)) (block b (take (n % b) (s .waiting) ++ padding b (s .bits) n)) (λ i. counterAt b n (n / b + i))
+    iterate c (roundCount (s .mode) c) (s .salt) (take c (s .chaining)) (block b (take (n % b) (s .waiting) ++ padding b (s .bits) n)) (λ i. counterAt b n (n / b + i))
     (blockCount b n - n / b)
 
 unfoldable pub sessionDigest : Session → List ℕ
@@ -136,6 +141,6 @@ digestRefusal h saltLength messageLength room =
     ∷ (5 when ltb room (h / 8))
     ∷ [])
 
-unfoldable pub digestLeaves : ℕ → List ℕ → List ℕ → List ℕ → List ℕ
-digestLeaves h salt message room =
-    unless (digestRefusal h (length salt) (length message) (length room)) (digestOf h salt message ++ drop (h / 8) room) room
+unfoldable pub digestLeaves : Mode → ℕ → List ℕ → List ℕ → List ℕ → List ℕ
+digestLeaves mode h salt message room =
+    unless (digestRefusal h (length salt) (length message) (length room)) (digestOf mode h salt message ++ drop (h / 8) room) room

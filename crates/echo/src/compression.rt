@@ -1,4 +1,4 @@
-// Compression (sections 3 and 4), over the size of the chaining variable.
+// Compression (sections 3 to 5), over the size of the chaining variable.
 ghost use mathlib.Core.Path.{_≡_};
 ghost use Prim.Native.Nat.{_+_, _*_, _/_, _<_, _≤_, _^_};
 ghost use lib.ListN.{length};
@@ -8,8 +8,10 @@ ghost use Rattle.echo.specs.Compression.{compress as Compression·compre
 ghost use Rattle.echo.specs.Families.{roundCount};
 ghost use Rattle.echo.specs.Routines.{compressLeaves, compressRefusal};
 ghost use Rattle.echo.specs.Square.{keysFrom};
+use super::families::chaining_size;
 use super::lent::copy_in;
 use super::lent::sixteen;
+use super::mode::Mode;
 use super::refusals::compress_refusal;
 use super::run::run;
 
@@ -62,24 +64,34 @@ pub(crate) fn compress_in(
     fold_in(chaining, &square, parts);
 }
 
-// The rounds of the family that the size of the chaining variable tells.
-pub(crate) fn round_count(chaining: usize) -> u64
-    ensures { λ r. ⌜ r ≡ roundCount chaining ⌝ }
+// The rounds of a mode for a chaining variable of that size.
+pub(crate) fn round_count(mode: Mode, chaining: usize) -> u64
+    ensures { λ r. ⌜ r ≡ roundCount mode chaining ⌝ }
 {
-    if chaining == 64 { 8 } else { 10 }
+    if chaining == chaining_size(mode, 256) {
+        8
+    } else {
+        10
+    }
 }
 
 // Rewrites the chaining variable by one block, and answers 0; or refuses by 2, 6 or 7 and leaves it. Sizes are 64 and 192 bytes or 128
-// and 128.
-pub fn compress(chaining: &mut [u8], block: &[u8], counter: u64, salt: &[u8]) -> u8
-    ensures refusal { λ r. ⌜ r ≡ compressRefusal (length (now (chaining .entry))) (length (now (block .entry))) counter (length (now (salt .entry))) ⌝ }
-    ensures left { λ _. ⌜ now (chaining .exit) ≡ compressLeaves (now (chaining .entry)) (now (block .entry)) counter (now (salt .entry)) ⌝ }
+// and 128 in double-pipe, 32 and 224 or 64 and 192 in single-pipe.
+pub fn compress(mode: Mode, chaining: &mut [u8], block: &[u8], counter: u64, salt: &[u8]) -> u8
+    ensures refusal { λ r. ⌜ r ≡ compressRefusal mode (length (now (chaining .entry))) (length (now (block .entry))) counter (length (now (salt .entry))) ⌝ }
+    ensures left { λ _. ⌜ now (chaining .exit) ≡ compressLeaves mode (now (chaining .entry)) (now (block .entry)) counter (now (salt .entry)) ⌝ }
 {
     let c = chaining.len();
-    let refusal = compress_refusal(c, block.len(), counter, salt.len());
+    let refusal = compress_refusal(mode, c, block.len(), counter, salt.len());
     if refusal != 0 {
         return refusal;
     }
-    compress_in(chaining, block, round_count(c), counter, sixteen(salt, 0));
+    compress_in(
+        chaining,
+        block,
+        round_count(mode, c),
+        counter,
+        sixteen(salt, 0),
+    );
     0
 }

@@ -10,6 +10,7 @@ ghost use Rattle.echo.specs.Numbers.{littleEndian};
 ghost use Rattle.echo.specs.Session.{allZero, compressed, finalChaining, limit, made};
 use super::families::block_size;
 use super::lent::copy_in;
+use super::mode::Mode;
 use super::waiting::clear;
 use super::waiting::compress_waiting;
 
@@ -54,42 +55,50 @@ fn last_counter(at: usize, taken: u64) -> u64
 fn close(
     chaining: &mut [u8],
     waiting: &mut [u8],
+    mode: Mode,
     bits: u64,
     taken: u64,
     counter: u64,
     salt: [u8; 16],
 )
     requires { ⌜ length (now chaining) ≡ 128 ⌝ }
-    requires { ⌜ length (now waiting) ≡ 192 ⌝ }
+    requires { ⌜ length (now waiting) ≡ 224 ⌝ }
     requires { ⌜ counter ≤ 2 ^ 64 - 161 ⌝ }
     requires { ⌜ bits ≤ 512 ⌝ }
     requires { ⌜ taken ≤ limit ⌝ }
-    ensures { λ _. ⌜ now (chaining .exit) ≡ compressed bits salt (now (chaining .entry)) counter (take (blockSize bits - 18) (now (waiting .entry)) ++ (littleEndian 2 bits ++ littleEndian 16 (8 * taken))) ⌝ }
+    ensures { λ _. ⌜ now (chaining .exit) ≡ compressed mode bits salt (now (chaining .entry)) counter (take (blockSize mode bits - 18) (now (waiting .entry)) ++ (littleEndian 2 bits ++ littleEndian 16 (8 * taken))) ⌝ }
 {
-    let at = block_size(bits) - 18;
+    let at = block_size(mode, bits) - 18;
     let end = lengths(bits, taken);
     copy_in(waiting, at, &end);
-    compress_waiting(chaining, waiting, bits, counter, salt);
+    compress_waiting(chaining, waiting, mode, bits, counter, salt);
 }
 
 // The blocks that are left: those of the waiting bytes and the padding.
-pub(crate) fn finish(chaining: &mut [u8], waiting: &mut [u8], bits: u64, taken: u64, salt: [u8; 16])
+pub(crate) fn finish(
+    chaining: &mut [u8],
+    waiting: &mut [u8],
+    mode: Mode,
+    bits: u64,
+    taken: u64,
+    salt: [u8; 16],
+)
     requires { ⌜ length (now chaining) ≡ 128 ⌝ }
-    requires { ⌜ length (now waiting) ≡ 192 ⌝ }
-    requires { ⌜ allZero (drop (taken % blockSize bits) (now waiting)) ≡ true ⌝ }
+    requires { ⌜ length (now waiting) ≡ 224 ⌝ }
+    requires { ⌜ allZero (drop (taken % blockSize mode bits) (now waiting)) ≡ true ⌝ }
     requires { ⌜ bits ≤ 512 ⌝ }
     requires { ⌜ taken ≤ limit ⌝ }
-    ensures { λ _. ⌜ take (chainingSize bits) (now (chaining .exit)) ≡ finalChaining (made bits salt (now (chaining .entry)) taken (now (waiting .entry))) ⌝ }
+    ensures { λ _. ⌜ take (chainingSize mode bits) (now (chaining .exit)) ≡ finalChaining (made mode bits salt (now (chaining .entry)) taken (now (waiting .entry))) ⌝ }
 {
-    let b = block_size(bits);
+    let b = block_size(mode, bits);
     let at = (taken % (b as u64)) as usize;
     let counter = last_counter(at, taken);
     waiting[at] = 0x80;
     if at + 19 <= b {
-        close(chaining, waiting, bits, taken, counter, salt);
+        close(chaining, waiting, mode, bits, taken, counter, salt);
         return;
     }
-    compress_waiting(chaining, waiting, bits, counter, salt);
+    compress_waiting(chaining, waiting, mode, bits, counter, salt);
     clear(waiting);
-    close(chaining, waiting, bits, taken, 0, salt);
+    close(chaining, waiting, mode, bits, taken, 0, salt);
 }

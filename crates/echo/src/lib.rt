@@ -6,6 +6,7 @@ mod initial;
 mod last_blocks;
 mod lent;
 mod mix_columns;
+mod mode;
 mod numbers;
 mod refusals;
 mod run;
@@ -18,6 +19,7 @@ mod waiting;
 
 pub use compression::compress;
 pub use digest_at_once::digest;
+pub use mode::Mode;
 pub use run::rounds;
 pub use run::rounds_back;
 pub use run::rounds_by_bytes;

@@ -6,6 +6,9 @@ ghost use Rattle.echo.specs.Families.{sizesFit};
 ghost use Rattle.echo.specs.Routines.{compressRefusal, roundsRefusal};
 ghost use Rattle.echo.specs.Session.{digestRefusal};
 use super::families::admitted;
+use super::families::block_size;
+use super::families::chaining_size;
+use super::mode::Mode;
 
 // The most bytes of a message, 2^61 - 21.
 pub(crate) const LIMIT: u64 = 2_305_843_009_213_693_931;
@@ -22,14 +25,14 @@ fn is_round_count(count: u64) -> bool
     count == 10
 }
 
-fn sizes_fit(chaining: usize, block: usize) -> bool
-    ensures { λ r. ⌜ r ≡ sizesFit chaining block ⌝ }
+fn sizes_fit(mode: Mode, chaining: usize, block: usize) -> bool
+    ensures { λ r. ⌜ r ≡ sizesFit mode chaining block ⌝ }
 {
-    if chaining == 64 {
-        return block == 192;
+    if chaining == chaining_size(mode, 256) {
+        return block == block_size(mode, 256);
     }
-    if chaining == 128 {
-        return block == 128;
+    if chaining == chaining_size(mode, 512) {
+        return block == block_size(mode, 512);
     }
     false
 }
@@ -54,13 +57,19 @@ pub(crate) fn rounds_refusal(square: usize, count: u64, counter: u64, salt: usiz
 }
 
 // What a compression is refused for, 0 for nothing.
-pub(crate) fn compress_refusal(chaining: usize, block: usize, counter: u64, salt: usize) -> u8
-    ensures { λ r. ⌜ r ≡ compressRefusal chaining block counter salt ⌝ }
+pub(crate) fn compress_refusal(
+    mode: Mode,
+    chaining: usize,
+    block: usize,
+    counter: u64,
+    salt: usize,
+) -> u8
+    ensures { λ r. ⌜ r ≡ compressRefusal mode chaining block counter salt ⌝ }
 {
     if salt != 16 {
         return 2;
     }
-    if !sizes_fit(chaining, block) {
+    if !sizes_fit(mode, chaining, block) {
         return 6;
     }
     if LAST_COUNTER < counter {

@@ -9,21 +9,23 @@ use super::initial::initial;
 use super::last_blocks::finish;
 use super::lent::copy_in;
 use super::lent::sixteen;
+use super::mode::Mode;
 use super::refusals::LIMIT;
 use super::waiting::absorb;
 use super::waiting::zeros_from;
 
 // A digest that is under way. It is passed by value, and each call hands it back.
 pub struct Session {
+    pub mode: Mode,
     // the digest length
     pub bits: u64,
     pub salt: [u8; 16],
-    // the chaining variable: the first 64 bytes up to 256 bits, else all
+    // the chaining variable, 32 to 128 bytes by mode and digest length, and zeros behind it
     pub chaining: [u8; 128],
     // the message bytes so far
     pub taken: u64,
     // those that don't fill a block yet, and zeros behind them
-    pub waiting: [u8; 192],
+    pub waiting: [u8; 224],
 }
 
 // What a call answers: a refusal number, 0 for none, and the session.
@@ -33,22 +35,23 @@ pub struct Answer {
 }
 
 impl Session {
-    // All zero, and no session.
+    // Double-pipe, else all zero, and no session.
     fn blank() -> Self
         ensures { λ r. ⌜ r ≡ blank ⌝ }
     {
         Session {
+            mode: Mode::DoublePipe,
             bits: 0,
             salt: [0; 16],
             chaining: [0; 128],
             taken: 0,
-            waiting: [0; 192],
+            waiting: [0; 224],
         }
     }
 
-    // A session for digests of so many bits under a salt; or the blank one with 1 (bits not admitted) or 2 (salt not 16 bytes).
-    pub fn open(bits: u64, salt: &[u8]) -> Answer
-        ensures { λ r. ⌜ r ≡ openAnswer bits (now (salt .entry)) ⌝ }
+    // A session for digests of so many bits in a mode under a salt; or the blank one with 1 (bits not admitted) or 2 (salt not 16 bytes).
+    pub fn open(mode: Mode, bits: u64, salt: &[u8]) -> Answer
+        ensures { λ r. ⌜ r ≡ openAnswer mode bits (now (salt .entry)) ⌝ }
     {
         if !admitted(bits) {
             let none = Session::blank();
@@ -65,13 +68,14 @@ impl Session {
             };
         }
         let own = sixteen(salt, 0);
-        let v = initial(bits);
+        let v = initial(mode, bits);
         let opened = Session {
+            mode: mode,
             bits: bits,
             salt: own,
             chaining: v,
             taken: 0,
-            waiting: [0; 192],
+            waiting: [0; 224],
         };
         Answer {
             refusal: 0,
@@ -83,6 +87,7 @@ impl Session {
     pub fn is_session(self) -> bool
         ensures { λ r. ⌜ r ≡ isSession self ⌝ }
     {
+        let mode = self.mode;
         let bits = self.bits;
         let taken = self.taken;
         if !admitted(bits) {
@@ -91,13 +96,13 @@ impl Session {
         if LIMIT < taken {
             return false;
         }
-        let at = (taken % (block_size(bits) as u64)) as usize;
+        let at = (taken % (block_size(mode, bits) as u64)) as usize;
         let w = self.waiting;
         if !zeros_from(&w, at) {
             return false;
         }
         let v = self.chaining;
-        zeros_from(&v, chaining_size(bits))
+        zeros_from(&v, chaining_size(mode, bits))
     }
 
     // The session with the piece joined to its message, or the same with 3 (no session) or 4 (too long).
@@ -117,14 +122,16 @@ impl Session {
                 session: self,
             };
         }
+        let mode = self.mode;
         let bits = self.bits;
         let salt = self.salt;
         let mut v = self.chaining;
         let mut w = self.waiting;
-        absorb(&mut v, &mut w, piece, bits, taken, salt);
+        absorb(&mut v, &mut w, piece, mode, bits, taken, salt);
         Answer {
             refusal: 0,
             session: Session {
+                mode: mode,
                 bits: bits,
                 salt: salt,
                 chaining: v,
@@ -154,11 +161,12 @@ impl Session {
                 session: self,
             };
         }
+        let mode = self.mode;
         let salt = self.salt;
         let taken = self.taken;
         let mut v = self.chaining;
         let mut w = self.waiting;
-        finish(&mut v, &mut w, bits, taken, salt);
+        finish(&mut v, &mut w, mode, bits, taken, salt);
         copy_in(out, 0, &v[..n]);
         Answer {
             refusal: 0,

@@ -8,6 +8,7 @@ use super::compression::compress_in;
 use super::compression::round_count;
 use super::families::block_size;
 use super::families::chaining_size;
+use super::mode::Mode;
 
 // Whether every byte from the place `at` on is zero.
 pub(crate) fn zeros_from(bytes: &[u8], at: usize) -> bool
@@ -33,25 +34,26 @@ pub(crate) fn clear(bytes: &mut [u8])
     }
 }
 
-// Compresses the waiting block, by the family's sizes.
+// Compresses the waiting block, by the sizes of mode and digest length.
 pub(crate) fn compress_waiting(
     chaining: &mut [u8],
     waiting: &[u8],
+    mode: Mode,
     bits: u64,
     counter: u64,
     salt: [u8; 16],
 )
     requires { ⌜ length (now chaining) ≡ 128 ⌝ }
-    requires { ⌜ length (now waiting) ≡ 192 ⌝ }
+    requires { ⌜ length (now waiting) ≡ 224 ⌝ }
     requires { ⌜ counter ≤ 2 ^ 64 - 161 ⌝ }
-    ensures { λ _. ⌜ now (chaining .exit) ≡ compressed bits salt (now (chaining .entry)) counter (take (blockSize bits) (now (waiting .entry))) ⌝ }
+    ensures { λ _. ⌜ now (chaining .exit) ≡ compressed mode bits salt (now (chaining .entry)) counter (take (blockSize mode bits) (now (waiting .entry))) ⌝ }
 {
-    let c = chaining_size(bits);
-    let b = block_size(bits);
+    let c = chaining_size(mode, bits);
+    let b = block_size(mode, bits);
     compress_in(
         &mut chaining[..c],
         &waiting[..b],
-        round_count(c),
+        round_count(mode, c),
         counter,
         salt,
     );
@@ -63,23 +65,24 @@ fn put(
     waiting: &mut [u8],
     at: usize,
     x: u8,
+    mode: Mode,
     bits: u64,
     taken: u64,
     salt: [u8; 16],
 ) -> usize
     requires { ⌜ length (now chaining) ≡ 128 ⌝ }
-    requires { ⌜ length (now waiting) ≡ 192 ⌝ }
-    requires { ⌜ at ≡ taken % blockSize bits ⌝ }
+    requires { ⌜ length (now waiting) ≡ 224 ⌝ }
+    requires { ⌜ at ≡ taken % blockSize mode bits ⌝ }
     requires { ⌜ taken < limit ⌝ }
-    ensures { λ r. ⌜ r ≡ (taken + 1) % blockSize bits ⌝ }
-    ensures { λ _. ⌜ made bits salt (now (chaining .exit)) (taken + 1) (now (waiting .exit)) ≡ addByte (made bits salt (now (chaining .entry)) taken (now (waiting .entry))) x ⌝ }
+    ensures { λ r. ⌜ r ≡ (taken + 1) % blockSize mode bits ⌝ }
+    ensures { λ _. ⌜ made mode bits salt (now (chaining .exit)) (taken + 1) (now (waiting .exit)) ≡ addByte (made mode bits salt (now (chaining .entry)) taken (now (waiting .entry))) x ⌝ }
 {
-    let b = block_size(bits);
+    let b = block_size(mode, bits);
     waiting[at] = x;
     if at + 1 < b {
         return at + 1;
     }
-    compress_waiting(chaining, waiting, bits, 8 * (taken + 1), salt);
+    compress_waiting(chaining, waiting, mode, bits, 8 * (taken + 1), salt);
     clear(waiting);
     0
 }
@@ -89,22 +92,24 @@ pub(crate) fn absorb(
     chaining: &mut [u8],
     waiting: &mut [u8],
     piece: &[u8],
+    mode: Mode,
     bits: u64,
     taken: u64,
     salt: [u8; 16],
 )
     requires { ⌜ length (now chaining) ≡ 128 ⌝ }
-    requires { ⌜ length (now waiting) ≡ 192 ⌝ }
+    requires { ⌜ length (now waiting) ≡ 224 ⌝ }
     requires { ⌜ taken + length (now piece) ≤ limit ⌝ }
-    ensures { λ _. ⌜ made bits salt (now (chaining .exit)) (taken + length (now (piece .entry))) (now (waiting .exit)) ≡ addBytes (made bits salt (now (chaining .entry)) taken (now (waiting .entry))) (now (piece .entry)) ⌝ }
+    ensures { λ _. ⌜ made mode bits salt (now (chaining .exit)) (taken + length (now (piece .entry))) (now (waiting .exit)) ≡ addBytes (made mode bits salt (now (chaining .entry)) taken (now (waiting .entry))) (now (piece .entry)) ⌝ }
 {
-    let mut at = (taken % (block_size(bits) as u64)) as usize;
+    let mut at = (taken % (block_size(mode, bits) as u64)) as usize;
     for i in 0..piece.len() {
         at = put(
             chaining,
             waiting,
             at,
             piece[i],
+            mode,
             bits,
             taken + i as u64,
             salt,

@@ -10,13 +10,14 @@ use borrow.Author.Tests.{eqb-true}
 use lib.Dec.{eqb}
 use lib.ListN.{drop, length, length-append, length-drop, replicate, take, take-append-drop}
 use lib.Seq.{length-take-le}
+use Rattle.echo.specs.declared.mode.Mode.{Mode}
 use Rattle.echo.specs.declared.session.Answer.{Answer}
 use Rattle.echo.specs.declared.session.Session.{Session}
 use Rattle.echo.specs.Digest.{block, blockCount, counterAt, iterate}
 use Rattle.echo.specs.Families.{blockSize, chainingSize, roundCount}
 use Rattle.echo.specs.Padding.{padding}
 use Rattle.echo.specs.Session.{addAnswer, addBytes, allZero, finalChaining, isSession, limit, readAnswer, readLeaves, sessionDigest}
-use Rattle.echo.proofs.Laws.Families.{block-pos, sizes}
+use Rattle.echo.proofs.Laws.Families.{block-pos, digest-in-chaining, sizes}
 use Rattle.echo.proofs.Laws.Kept.{add-is-session, add-keeps}
 use Rattle.echo.proofs.Laws.Sessions.{SessionFits, added, both, left-0, read-0, session-fits}
 use Rattle.echo.proofs.Laws.Stream.{length-turns, one-left}
@@ -30,20 +31,22 @@ zeros-only (x ∷ l) z = let p = both (eqb x 0) (allZero l) z in ap₂ (λ (y : 
 pub session-digest-long : (s : Session) → s .bits ≤ 512 → length (sessionDigest s) ≡ s .bits / 8
 unfolding sessionDigest finalChaining
 session-digest-long s most =
-    let c = chainingSize (s .bits) in
-    let some = one-left (blockSize (s .bits)) (block-pos (s .bits)) (s .taken) in
-    let S = sizes (s .bits) in
-    length-take-le (s .bits / 8) _ (rw (length-turns c (roundCount c) (s .salt) _ _ _ _ some) (omega arith))
+    let c = chainingSize (s .mode) (s .bits) in
+    let some = one-left (blockSize (s .mode) (s .bits)) (block-pos (s .mode) (s .bits)) (s .taken) in
+    length-take-le (s .bits / 8) _ (rw (length-turns c (roundCount (s .mode) c) (s .salt) _ _ _ _ some) (digest-in-chaining (s .mode) (s .bits) most))
 
-module _ (s : Session) (is : isSession s ≡ true) (lc : length (s .chaining) ≡ 128) (lw : length (s .waiting) ≡ 192) where
+module _ (s : Session) (is : isSession s ≡ true) (lc : length (s .chaining) ≡ 128) (lw : length (s .waiting) ≡ 224) where
+  abbrev mode : Mode
+  mode = s .mode
+
   abbrev h : ℕ
   h = s .bits
 
   abbrev b : ℕ
-  b = blockSize h
+  b = blockSize mode h
 
   abbrev c : ℕ
-  c = chainingSize h
+  c = chainingSize mode h
 
   -- the blocks that were taken, the chaining variable behind them, and the bytes that wait
   abbrev q : ℕ
@@ -62,19 +65,19 @@ module _ (s : Session) (is : isSession s ≡ true) (lc : length (s .chaining) �
   fits = session-fits s is
 
   few : s .taken % b < b
-  few = mod-lt (s .taken) (block-pos h)
+  few = mod-lt (s .taken) (block-pos mode h)
 
   v-long : length v ≡ c
-  v-long = let F = sizes h in length-take-le c (s .chaining) (omega arith)
+  v-long = let F = sizes mode h in length-take-le c (s .chaining) (omega arith)
 
   waits-long : length waits ≡ s .taken % b
-  waits-long = let F = sizes h in length-take-le (s .taken % b) (s .waiting) (omega (arith, few))
+  waits-long = let F = sizes mode h in length-take-le (s .taken % b) (s .waiting) (omega (arith, few))
 
   counted : b * q + length waits ≡ s .taken
   counted = omega (arith, waits-long, div-add-mod (s .taken) b)
 
   -- the record is the state of its waiting bytes
-  is-state : s ≡ stateFrom h (s .salt) v rest q waits
+  is-state : s ≡ stateFrom mode h (s .salt) v rest q waits
   unfolding stateFrom chained iterate
   is-state = sym (made-eq chains counted waiting-is)
     where
@@ -84,18 +87,18 @@ module _ (s : Session) (is : isSession s ≡ true) (lc : length (s .chaining) �
       left : length waits % b ≡ s .taken % b
       left = ap (λ (n : ℕ). n % b) waits-long ∙ mod-eq-of-lt few
 
-      chains : chained h (s .salt) v rest q waits (length waits / b) ++ rest ≡ s .chaining
-      chains = ap (λ (t : ℕ). chained h (s .salt) v rest q waits t ++ rest) none ∙ take-append-drop c (s .chaining)
+      chains : chained mode h (s .salt) v rest q waits (length waits / b) ++ rest ≡ s .chaining
+      chains = ap (λ (t : ℕ). chained mode h (s .salt) v rest q waits t ++ rest) none ∙ take-append-drop c (s .chaining)
 
-      zeros : replicate (192 - s .taken % b) 0 ≡ drop (s .taken % b) (s .waiting)
+      zeros : replicate (224 - s .taken % b) 0 ≡ drop (s .taken % b) (s .waiting)
       zeros =
-          let e : 192 - s .taken % b ≡ length (drop (s .taken % b) (s .waiting)) = omega (arith, length-drop (s .taken % b) (s .waiting)) in
+          let e : 224 - s .taken % b ≡ length (drop (s .taken % b) (s .waiting)) = omega (arith, length-drop (s .taken % b) (s .waiting)) in
           ap (λ (n : ℕ). replicate n 0) e
           ∙ sym (zeros-only (drop (s .taken % b) (s .waiting)) (fits .waiting-zero))
 
-      waiting-is : drop (b * (length waits / b)) waits ++ replicate (192 - length waits % b) 0 ≡ s .waiting
+      waiting-is : drop (b * (length waits / b)) waits ++ replicate (224 - length waits % b) 0 ≡ s .waiting
       waiting-is =
-          ap₂ (λ (t k : ℕ). drop (b * t) waits ++ replicate (192 - k) 0) none left
+          ap₂ (λ (t k : ℕ). drop (b * t) waits ++ replicate (224 - k) 0) none left
           ∙ ap₂ (λ (k : ℕ) (l : List ℕ). drop k waits ++ l) (mul-zero b) zeros
           ∙ take-append-drop (s .taken % b) (s .waiting)
 
@@ -103,8 +106,8 @@ module _ (s : Session) (is : isSession s ≡ true) (lc : length (s .chaining) �
     abbrev n : ℕ
     n = s .taken + length piece
 
-    added-is : addBytes s piece ≡ stateFrom h (s .salt) v rest q (waits ++ piece)
-    added-is = ap (λ (x : Session). addBytes x piece) is-state ∙ add-more h (s .salt) v rest q v-long waits piece
+    added-is : addBytes s piece ≡ stateFrom mode h (s .salt) v rest q (waits ++ piece)
+    added-is = ap (λ (x : Session). addBytes x piece) is-state ∙ add-more mode h (s .salt) v rest q v-long waits piece
 
     count-is : b * q + length (waits ++ piece) ≡ n
     count-is = omega (arith, length-append waits piece, counted)
@@ -114,17 +117,17 @@ module _ (s : Session) (is : isSession s ≡ true) (lc : length (s .chaining) �
 
     -- the paper's iteration from the record, over its waiting bytes, the piece and the padding
     abbrev final : List ℕ
-    final = iterate c (roundCount c) (s .salt) v (block b (waits ++ (piece ++ padding b h n))) (λ i. counterAt b n (q + i)) (blockCount b n - q)
+    final = iterate c (roundCount mode c) (s .salt) v (block b (waits ++ (piece ++ padding b h n))) (λ i. counterAt b n (q + i)) (blockCount b n - q)
 
     continued-digest : sessionDigest (addBytes s piece) ≡ take (h / 8) final
     unfolding sessionDigest stateFrom
     continued-digest =
         ap sessionDigest added-is
         ∙ ap (take (h / 8))
-        (state-final h (s .salt) v rest q v-long (waits ++ piece)
-        ∙ ap (λ (k : ℕ). iterate c (roundCount c) (s .salt) v (block b ((waits ++ piece) ++ padding b h k)) (λ i. counterAt b k (q + i)) (blockCount b k - q))
+        (state-final mode h (s .salt) v rest q v-long (waits ++ piece)
+        ∙ ap (λ (k : ℕ). iterate c (roundCount mode c) (s .salt) v (block b ((waits ++ piece) ++ padding b h k)) (λ i. counterAt b k (q + i)) (blockCount b k - q))
         count-is
-        ∙ ap (λ (l : List ℕ). iterate c (roundCount c) (s .salt) v (block b l) (λ i. counterAt b n (q + i)) (blockCount b n - q))
+        ∙ ap (λ (l : List ℕ). iterate c (roundCount mode c) (s .salt) v (block b l) (λ i. counterAt b n (q + i)) (blockCount b n - q))
         (append-assoc waits piece (padding b h n)))
 
     bits-stay : addBytes s piece .bits ≡ h

@@ -12,6 +12,7 @@ use lib.ListN.{drop, getD, getD-replicate, length, length-append, length-replica
 use lib.Seq.{drop-at, getD-drop, getD-set-other, getD-set-same, getD-take, length-take-le, take-all, take-at}
 use Rattle.aes_round.proofs.Laws.Bytes.{length-tab, lt-or-le, same-list}
 use Rattle.aes_round.proofs.Laws.Xor.{length-xor}
+use Rattle.echo.specs.declared.mode.Mode.{Mode}
 use Rattle.echo.specs.Compression.{bigFinal, compress}
 use Rattle.echo.specs.Digest.{block, blockCount, counterAt, iterate}
 use Rattle.echo.specs.Families.{blockSize, chainingSize, either, roundCount}
@@ -27,7 +28,7 @@ use Rattle.echo.proofs.Laws.Sessions.{both}
 use Rattle.echo.proofs.Laws.Placed.{cleared}
 
 -- a block of b bytes whose last eighteen are the lengths e
-closed : (b : ℕ) (w e t : List ℕ) → length w ≡ 192 → 128 ≤ b → b ≤ 192 → length e ≡ 18 → Placed w (b - 18) e 18 t → take b t ≡ take (b - 18) w ++ e
+closed : (b : ℕ) (w e t : List ℕ) → length w ≡ 224 → 128 ≤ b → b ≤ 224 → length e ≡ 18 → Placed w (b - 18) e 18 t → take b t ≡ take (b - 18) w ++ e
 closed b w e t lw least most le P =
     same-list b (take b t) (take (b - 18) w ++ e) (length-take-le b t (omega (arith, P .long))) (length-append (take (b - 18) w) e ∙ omega (arith, short, le))
     (λ k h. getD-take b t k 0 h ∙ ⊎-elim (front k) (back k h) (lt-or-le k (b - 18)))
@@ -176,8 +177,8 @@ take-zeros m n h =
     on : m ≤ n → m + (n - m) ≡ n
     on h = omega arith
 
-module _ (b h n : ℕ) (w : List ℕ) (lw : length w ≡ 192) (least : 128 ≤ b) (most : b ≤ 192) (z : allZero (drop (n % b) w) ≡ true) where
-  begun-long : (m : ℕ) → m ≤ 192 → length (take m (set w (n % b) 0x80)) ≡ m
+module _ (b h n : ℕ) (w : List ℕ) (lw : length w ≡ 224) (least : 128 ≤ b) (most : b ≤ 224) (z : allZero (drop (n % b) w) ≡ true) where
+  begun-long : (m : ℕ) → m ≤ 224 → length (take m (set w (n % b) 0x80)) ≡ m
   begun-long m l = length-take-le m (set w (n % b) 0x80) (omega (arith, length-set w (n % b) 0x80))
 
   -- one block: the waiting bytes, the padding's first byte, zeros and the lengths
@@ -205,84 +206,84 @@ module _ (b h n : ℕ) (w : List ℕ) (lw : length w ≡ 192) (least : 128 ≤ b
   unfolding block
   two-first k = ap₂ (λ (x : ℕ) (l : List ℕ). take b (drop x l)) (mul-zero b) (halves k) ∙ take-at (take b (set w (n % b) 0x80)) _ b (begun-long b most)
 
-  two-second : b < n % b + 19 → block b (take (n % b) w ++ padding b h n) 1 ≡ take (b - 18) (replicate 192 0) ++ lengthsOf h n
+  two-second : b < n % b + 19 → block b (take (n % b) w ++ padding b h n) 1 ≡ take (b - 18) (replicate 224 0) ++ lengthsOf h n
   unfolding block
   two-second k =
       ap₂ (λ (x : ℕ) (l : List ℕ). take b (drop x l)) (mul-one b) (halves k)
       ∙ ap (take b) (drop-at (take b (set w (n % b) 0x80)) _ b (begun-long b most))
       ∙ take-all b (replicate (b - 18) 0 ++ lengthsOf h n)
       (omega (arith, length-append (replicate (b - 18) 0) (lengthsOf h n), length-replicate {A = ℕ} (b - 18) 0, length-lengths h n))
-      ∙ ap (λ (l : List ℕ). l ++ lengthsOf h n) (sym (take-zeros (b - 18) 192 (omega arith)))
+      ∙ ap (λ (l : List ℕ). l ++ lengthsOf h n) (sym (take-zeros (b - 18) 224 (omega arith)))
 
 -- ---- the lengths e put into the last bytes of a block, by a block size b that the code computed
 
-module _ (h b : ℕ) (size : b ≡ blockSize h) where
+module _ (mode : Mode) (h b : ℕ) (size : b ≡ blockSize mode h) where
   pub lengths-fit : 18 ≤ b
-  lengths-fit = let S = sizes h in omega arith
+  lengths-fit = let S = sizes mode h in omega arith
 
-  module _ (w e : List ℕ) (lw : length w ≡ 192) (le : length e ≡ 18) where
+  module _ (w e : List ℕ) (lw : length w ≡ 224) (le : length e ≡ 18) where
     pub lengths-within : b - 18 + length e ≤ length w
-    lengths-within = let S = sizes h in omega arith
+    lengths-within = let S = sizes mode h in omega arith
 
-    pub closed-block : (n k : ℕ) (salt v t u : List ℕ) → u ≡ compressed h salt v k (take (blockSize h) t) → Placed w (b - 18) e (length e) t → e ≡ lengthsOf h n
-        → u ≡ compressed h salt v k (take (blockSize h - 18) w ++ lengthsOf h n)
+    pub closed-block : (n k : ℕ) (salt v t u : List ℕ) → u ≡ compressed mode h salt v k (take (blockSize mode h) t) → Placed w (b - 18) e (length e) t → e ≡ lengthsOf h n
+        → u ≡ compressed mode h salt v k (take (blockSize mode h - 18) w ++ lengthsOf h n)
     closed-block n k salt v t u r P d =
-        let S = sizes h in
+        let S = sizes mode h in
         r
-        ∙ ap (compressed h salt v k)
-        (closed (blockSize h) w e t lw (S .block-least) (S .block-most) le
+        ∙ ap (compressed mode h salt v k)
+        (closed (blockSize mode h) w e t lw (S .block-least) (S .block-most) le
         (subst (λ (x : ℕ). Placed w (x - 18) e 18 t) size (subst (λ (x : ℕ). Placed w (b - 18) e x t) le P))
-        ∙ ap (λ (l : List ℕ). take (blockSize h - 18) w ++ l) d)
+        ∙ ap (λ (l : List ℕ). take (blockSize mode h - 18) w ++ l) d)
 
 -- ---- the final chaining variable
 
-abbrev step : ℕ → List ℕ → ℕ → List ℕ → List ℕ → List ℕ
-step h salt k = compress (chainingSize h) (roundCount (chainingSize h)) (keysFrom k) salt
+abbrev step : Mode → ℕ → List ℕ → ℕ → List ℕ → List ℕ → List ℕ
+step mode h salt k = compress (chainingSize mode h) (roundCount mode (chainingSize mode h)) (keysFrom k) salt
 
 -- the chaining variable of the room that has taken a block
-taken-in : (h : ℕ) (salt v : List ℕ) (k : ℕ) (m : List ℕ) → take (chainingSize h) (compressed h salt v k m) ≡ step h salt k (take (chainingSize h) v) m
+taken-in : (mode : Mode) (h : ℕ) (salt v : List ℕ) (k : ℕ) (m : List ℕ) → take (chainingSize mode h) (compressed mode h salt v k m) ≡ step mode h salt k (take (chainingSize mode h) v) m
 unfolding compress bigFinal
-taken-in h salt v k m = take-at _ (drop (chainingSize h) v) (chainingSize h) (length-xor (chainingSize h) _ _)
+taken-in mode h salt v k m = take-at _ (drop (chainingSize mode h) v) (chainingSize mode h) (length-xor (chainingSize mode h) _ _)
 
-module _ (h n : ℕ) (salt v w : List ℕ) (lw : length w ≡ 192) (z : allZero (drop (n % blockSize h) w) ≡ true) where
+module _ (mode : Mode) (h n : ℕ) (salt v w : List ℕ) (lw : length w ≡ 224) (z : allZero (drop (n % blockSize mode h) w) ≡ true) where
   -- the blocks that are left, their counters, and the chaining variable that has taken so many of them
   abbrev blocks : ℕ → List ℕ
-  blocks = block (blockSize h) (take (n % blockSize h) w ++ padding (blockSize h) h n)
+  blocks = block (blockSize mode h) (take (n % blockSize mode h) w ++ padding (blockSize mode h) h n)
 
   abbrev counters : ℕ → ℕ
-  counters i = counterAt (blockSize h) n (n / blockSize h + i)
+  counters i = counterAt (blockSize mode h) n (n / blockSize mode h + i)
 
   abbrev through : ℕ → List ℕ
-  through = iterate (chainingSize h) (roundCount (chainingSize h)) salt (take (chainingSize h) v) blocks counters
+  through = iterate (chainingSize mode h) (roundCount mode (chainingSize mode h)) salt (take (chainingSize mode h) v) blocks counters
 
-  first-in : (u m : List ℕ) → u ≡ compressed h salt v (either (eqb (n % blockSize h) 0) 0 (8 * n)) m → m ≡ blocks 0
-      → take (chainingSize h) u ≡ step h salt (counters 0) (take (chainingSize h) v) (blocks 0)
+  first-in : (u m : List ℕ) → u ≡ compressed mode h salt v (either (eqb (n % blockSize mode h) 0) 0 (8 * n)) m → m ≡ blocks 0
+      → take (chainingSize mode h) u ≡ step mode h salt (counters 0) (take (chainingSize mode h) v) (blocks 0)
   first-in u m e f =
-      ap (take (chainingSize h)) e
-      ∙ taken-in h salt v _ m
-      ∙ ap₂ (λ (x : ℕ) (y : List ℕ). step h salt x (take (chainingSize h) v) y) (sym (first-counter (blockSize h) n (sizes h .block-least))) f
+      ap (take (chainingSize mode h)) e
+      ∙ taken-in mode h salt v _ m
+      ∙ ap₂ (λ (x : ℕ) (y : List ℕ). step mode h salt x (take (chainingSize mode h) v) y) (sym (first-counter (blockSize mode h) n (sizes mode h .block-least))) f
 
-  final-one : n % blockSize h + 19 ≤ blockSize h → (u : List ℕ)
-      → u ≡ compressed h salt v (either (eqb (n % blockSize h) 0) 0 (8 * n)) (take (blockSize h - 18) (set w (n % blockSize h) 0x80) ++ lengthsOf h n)
-      → take (chainingSize h) u ≡ finalChaining (made h salt v n w)
+  final-one : n % blockSize mode h + 19 ≤ blockSize mode h → (u : List ℕ)
+      → u ≡ compressed mode h salt v (either (eqb (n % blockSize mode h) 0) 0 (8 * n)) (take (blockSize mode h - 18) (set w (n % blockSize mode h) 0x80) ++ lengthsOf h n)
+      → take (chainingSize mode h) u ≡ finalChaining (made mode h salt v n w)
   unfolding finalChaining iterate
   final-one k u e =
-      let S = sizes h in
-      first-in u _ e (sym (one (blockSize h) h n w lw (S .block-least) (S .block-most) z k))
-      ∙ ap through (sym (one-block (blockSize h) n (S .block-least) k))
+      let S = sizes mode h in
+      first-in u _ e (sym (one (blockSize mode h) h n w lw (S .block-least) (S .block-most) z k))
+      ∙ ap through (sym (one-block (blockSize mode h) n (S .block-least) k))
 
-  final-two : blockSize h < n % blockSize h + 19 → (u : List ℕ)
-      → u ≡ compressed h salt v (either (eqb (n % blockSize h) 0) 0 (8 * n)) (take (blockSize h) (set w (n % blockSize h) 0x80))
-      → take (chainingSize h) (compressed h salt u 0 (take (blockSize h - 18) (replicate 192 0) ++ lengthsOf h n)) ≡ finalChaining (made h salt v n w)
+  final-two : blockSize mode h < n % blockSize mode h + 19 → (u : List ℕ)
+      → u ≡ compressed mode h salt v (either (eqb (n % blockSize mode h) 0) 0 (8 * n)) (take (blockSize mode h) (set w (n % blockSize mode h) 0x80))
+      → take (chainingSize mode h) (compressed mode h salt u 0 (take (blockSize mode h - 18) (replicate 224 0) ++ lengthsOf h n)) ≡ finalChaining (made mode h salt v n w)
   unfolding finalChaining iterate
   final-two k u e =
-      let S = sizes h in
-      taken-in h salt u 0 _
-      ∙ ap₂ (step h salt 0) (first-in u _ e (sym (two-first (blockSize h) h n w lw (S .block-least) (S .block-most) z k)))
-      (sym (two-second (blockSize h) h n w lw (S .block-least) (S .block-most) z k))
-      ∙ ap (λ (x : ℕ). step h salt x (step h salt (counters 0) (take (chainingSize h) v) (blocks 0)) (blocks 1))
-      (sym (second-counter (blockSize h) n (S .block-least)))
-      ∙ ap through (sym (two-blocks (blockSize h) n (S .block-least) k))
+      let S = sizes mode h in
+      taken-in mode h salt u 0 _
+      ∙ ap₂ (step mode h salt 0) (first-in u _ e (sym (two-first (blockSize mode h) h n w lw (S .block-least) (S .block-most) z k)))
+      (sym (two-second (blockSize mode h) h n w lw (S .block-least) (S .block-most) z k))
+      ∙ ap (λ (x : ℕ). step mode h salt x (step mode h salt (counters 0) (take (chainingSize mode h) v) (blocks 0)) (blocks 1))
+      (sym (second-counter (blockSize mode h) n (S .block-least)))
+      ∙ ap through (sym (two-blocks (blockSize mode h) n (S .block-least) k))
 
 -- the counter of a block that is left is low enough
 end-counter-fits : (u n : ℕ) → n ≤ limit → either (eqb u 0) 0 (8 * n) ≤ 2 ^ 64 - 161
@@ -293,25 +294,25 @@ end-counter-fits u n h = by (eqb u 0)
     by false = omega arith
 
 -- the same of the block size b and the counter k that the code has
-module _ (h n b k : ℕ) (size : b ≡ blockSize h) (counter : k ≡ either (eqb (n % b) 0) 0 (8 * n)) where
-  counter-is : k ≡ either (eqb (n % blockSize h) 0) 0 (8 * n)
+module _ (mode : Mode) (h n b k : ℕ) (size : b ≡ blockSize mode h) (counter : k ≡ either (eqb (n % b) 0) 0 (8 * n)) where
+  counter-is : k ≡ either (eqb (n % blockSize mode h) 0) 0 (8 * n)
   counter-is = counter ∙ ap (λ (x : ℕ). either (eqb (n % x) 0) 0 (8 * n)) size
 
   pub counter-fits : n ≤ limit → k ≤ 2 ^ 64 - 161
-  counter-fits m = omega (arith, counter-is, end-counter-fits (n % blockSize h) n m)
+  counter-fits m = omega (arith, counter-is, end-counter-fits (n % blockSize mode h) n m)
 
-  module _ (salt v w : List ℕ) (lw : length w ≡ 192) (z : allZero (drop (n % blockSize h) w) ≡ true) where
-    pub one-left : n % b + 19 ≤ b → (u : List ℕ) → u ≡ compressed h salt v k (take (blockSize h - 18) (set w (n % b) 0x80) ++ lengthsOf h n)
-        → take (chainingSize h) u ≡ finalChaining (made h salt v n w)
+  module _ (salt v w : List ℕ) (lw : length w ≡ 224) (z : allZero (drop (n % blockSize mode h) w) ≡ true) where
+    pub one-left : n % b + 19 ≤ b → (u : List ℕ) → u ≡ compressed mode h salt v k (take (blockSize mode h - 18) (set w (n % b) 0x80) ++ lengthsOf h n)
+        → take (chainingSize mode h) u ≡ finalChaining (made mode h salt v n w)
     one-left fits u e =
-        final-one h n salt v w lw z (subst (λ (x : ℕ). n % x + 19 ≤ x) size fits) u
-        (e ∙ ap₂ (λ (x y : ℕ). compressed h salt v x (take (blockSize h - 18) (set w (n % y) 0x80) ++ lengthsOf h n)) counter-is size)
+        final-one mode h n salt v w lw z (subst (λ (x : ℕ). n % x + 19 ≤ x) size fits) u
+        (e ∙ ap₂ (λ (x y : ℕ). compressed mode h salt v x (take (blockSize mode h - 18) (set w (n % y) 0x80) ++ lengthsOf h n)) counter-is size)
 
-    pub two-left : b < n % b + 19 → (u l r : List ℕ) → u ≡ compressed h salt v k (take (blockSize h) (set w (n % b) 0x80))
-        → l ≡ replicate (length (set w (n % b) 0x80)) 0 → r ≡ compressed h salt u 0 (take (blockSize h - 18) l ++ lengthsOf h n)
-        → take (chainingSize h) r ≡ finalChaining (made h salt v n w)
+    pub two-left : b < n % b + 19 → (u l r : List ℕ) → u ≡ compressed mode h salt v k (take (blockSize mode h) (set w (n % b) 0x80))
+        → l ≡ replicate (length (set w (n % b) 0x80)) 0 → r ≡ compressed mode h salt u 0 (take (blockSize mode h - 18) l ++ lengthsOf h n)
+        → take (chainingSize mode h) r ≡ finalChaining (made mode h salt v n w)
     two-left over u l r first zeros second =
-        ap (take (chainingSize h))
-        (second ∙ ap (λ (x : List ℕ). compressed h salt u 0 (take (blockSize h - 18) x ++ lengthsOf h n)) (cleared w l (n % b) 0x80 192 zeros lw))
-        ∙ final-two h n salt v w lw z (subst (λ (x : ℕ). x < n % x + 19) size over) u
-        (first ∙ ap₂ (λ (x y : ℕ). compressed h salt v x (take (blockSize h) (set w (n % y) 0x80))) counter-is size)
+        ap (take (chainingSize mode h))
+        (second ∙ ap (λ (x : List ℕ). compressed mode h salt u 0 (take (blockSize mode h - 18) x ++ lengthsOf h n)) (cleared w l (n % b) 0x80 224 zeros lw))
+        ∙ final-two mode h n salt v w lw z (subst (λ (x : ℕ). x < n % x + 19) size over) u
+        (first ∙ ap₂ (λ (x y : ℕ). compressed mode h salt v x (take (blockSize mode h) (set w (n % y) 0x80))) counter-is size)

@@ -8,6 +8,7 @@ use lib.ListN.{getD, getD-replicate, length-append, length-replicate, replicate}
 use Rattle.aes_round.specs.Bytes.{tab}
 use Rattle.aes_round.proofs.Laws.Bytes.{getD-tab, length-tab, lt-or-le, same-list}
 use Rattle.aes_round.proofs.Laws.Fill.{Filled}
+use Rattle.echo.specs.declared.mode.Mode.{Mode}
 use Rattle.echo.specs.Digest.{initial}
 use Rattle.echo.specs.Families.{chainingSize}
 use Rattle.echo.proofs.Laws.Families.{sizes}
@@ -38,13 +39,13 @@ filled-front n i f r F =
         ∙ getD-replicate (n - i) (k - i) 0 0 (left k h g))
 
 -- the bytes up to the size c that the code computed
-module _ (h c k : ℕ) (size : c ≡ chainingSize h) where
+module _ (mode : Mode) (h c k : ℕ) (size : c ≡ chainingSize mode h) where
   pub in-room : k < c → k < 128
-  in-room l = let S = sizes h in omega arith
+  in-room l = let S = sizes mode h in omega arith
 
   pub initial-filled : (v : List ℕ) → Filled 128 (λ j. h / 256 ^ (j % 16) % 256) (replicate 128 0) k v → k ≤ c → c ≤ k
-      → v ≡ initial (chainingSize h) h ++ replicate (128 - chainingSize h) 0
+      → v ≡ initial (chainingSize mode h) h ++ replicate (128 - chainingSize mode h) 0
   unfolding initial
   initial-filled v F most least =
-      let all : k ≡ chainingSize h = omega arith in
+      let all : k ≡ chainingSize mode h = omega arith in
       filled-front 128 k _ v F ∙ ap (λ (i : ℕ). tab i (λ j. h / 256 ^ (j % 16) % 256) ++ replicate (128 - i) 0) all

@@ -10,6 +10,7 @@ use borrow.Author.Tests.{eq-eqb, ne-eqb}
 use lib.Dec.{eqb}
 use lib.ListN.{drop, length, replicate, take}
 use lib.Seq.{drop-at, drop-drop, drop-set-lt}
+use Rattle.echo.specs.declared.mode.Mode.{Mode}
 use Rattle.echo.specs.declared.session.Session.{Session}
 use Rattle.echo.specs.Compression.{compress}
 use Rattle.echo.specs.Families.{blockSize, chainingSize, roundCount}
@@ -31,10 +32,10 @@ zero-behind (suc n) (x ∷ l) e = zero-behind n l (both (eqb x 0) (allZero l) e 
 
 module _ (s : Session) (x : ℕ) where
   abbrev b : ℕ
-  b = blockSize (s .bits)
+  b = blockSize (s .mode) (s .bits)
 
   abbrev c : ℕ
-  c = chainingSize (s .bits)
+  c = chainingSize (s .mode) (s .bits)
 
   full-is : s .taken % b + 1 ≡ b → addByte s x ≡ filledBy s x
   unfolding addByte
@@ -49,7 +50,7 @@ module _ (s : Session) (x : ℕ) where
   either-way P full more =
       ⊎-elim (λ (e : suc (s .taken % b) ≡ b). let f : s .taken % b + 1 ≡ b = omega arith in rw (full-is f) (full f))
       (λ (l : suc (s .taken % b) < b). let m : s .taken % b + 1 < b = omega arith in rw (more-is m) (more m))
-      (eq-or-lt-of-le (mod-lt (s .taken) (block-pos (s .bits))))
+      (eq-or-lt-of-le (mod-lt (s .taken) (block-pos (s .mode) (s .bits))))
 
   byte-keeps : (addByte s x .bits ≡ s .bits) × (addByte s x .salt ≡ s .salt) × (addByte s x .taken ≡ s .taken + 1)
   byte-keeps = either-way (λ r. (r .bits ≡ s .bits) × (r .salt ≡ s .salt) × (r .taken ≡ s .taken + 1)) (λ e. (refl, refl, refl)) (λ l. (refl, refl, refl))
@@ -61,12 +62,12 @@ module _ (s : Session) (x : ℕ) where
       F = session-fits s is
 
       chained : List ℕ
-      chained = compress c (roundCount c) (keysFrom (8 * (s .taken + 1))) (s .salt) (take c (s .chaining)) (take b (waitingWith s x))
+      chained = compress c (roundCount (s .mode) c) (keysFrom (8 * (s .taken + 1))) (s .salt) (take c (s .chaining)) (take b (waitingWith s x))
 
       full : s .taken % b + 1 ≡ b → isSession (filledBy s x) ≡ true
       full e =
-          let waits = zero-behind ((s .taken + 1) % b) (replicate 192 0) (zeros-are-zero 192) in
-          let long = length-compress c (roundCount c) _ (s .salt) _ _ in
+          let waits = zero-behind ((s .taken + 1) % b) (replicate 224 0) (zeros-are-zero 224) in
+          let long = length-compress c (roundCount (s .mode) c) _ (s .salt) _ _ in
           sym (is-clear (filledBy s x) true (sym (F .admits)) refl few b refl true (sym waits) refl c true
           (sym (rw (drop-at chained (drop c (s .chaining)) c long) (F .chaining-zero))) refl)
 
@@ -77,7 +78,7 @@ module _ (s : Session) (x : ℕ) where
           waits : allZero (drop ((s .taken + 1) % b) (waitingWith s x)) ≡ true
           waits =
               rw (
-                mod-more b (block-pos (s .bits)) (s .taken) l,
+                mod-more b (block-pos (s .mode) (s .bits)) (s .taken) l,
                 drop-set-lt (s .taken % b + 1) (s .waiting) (s .taken % b) x (omega arith),
                 ← drop-drop 1 (s .taken % b) (s .waiting),
               )

@@ -7,8 +7,9 @@ use lib.Dec.{lit<}
 use lib.ListN.{getD, replicate}
 use Rattle.aes_round.specs.Bytes.{tab}
 use Rattle.aes_round.proofs.Laws.Bytes.{is-tab}
+use Rattle.echo.specs.declared.mode.Mode.the-variants.{DoublePipe}
 use Rattle.echo.specs.Digest.{blockCount, counterAt}
-use Rattle.echo.specs.Families.{blockSize}
+use Rattle.echo.specs.Families.{blockSize, chainingSize}
 use Rattle.echo.specs.Padding.{pad, padding}
 use Rattle.echo.proofs.Laws.Numbers.{lengths-are}
 
@@ -22,19 +23,19 @@ two-are f n a b e p q = sym (rw e (is-tab 2 (a ∷ b ∷ []) f refl each))
     each (suc (suc i)) h = absurd (omega arith)
 
 -- the counters of all blocks, for messages of 174 and 192 bytes
-pub counters-174 : tab (blockCount (blockSize 256) 174) (counterAt (blockSize 256) 174) ≡ 1392 ∷ 0 ∷ []
-unfolding blockSize blockCount counterAt
+pub counters-174 : tab (blockCount (blockSize DoublePipe 256) 174) (counterAt (blockSize DoublePipe 256) 174) ≡ 1392 ∷ 0 ∷ []
+unfolding blockSize chainingSize blockCount counterAt
 counters-174 = two-are (counterAt 192 174) 2 1392 0 refl refl refl
 
-pub counters-192 : tab (blockCount (blockSize 256) 192) (counterAt (blockSize 256) 192) ≡ 1536 ∷ 0 ∷ []
-unfolding blockSize blockCount counterAt
+pub counters-192 : tab (blockCount (blockSize DoublePipe 256) 192) (counterAt (blockSize DoublePipe 256) 192) ≡ 1536 ∷ 0 ∷ []
+unfolding blockSize chainingSize blockCount counterAt
 counters-192 = two-are (counterAt 192 192) 2 1536 0 refl refl refl
 
-pub empty-padded : pad (blockSize 256) 256 [] ≡ 0x80 ∷ (replicate 173 0 ++ (0x00 ∷ 0x01 ∷ replicate 16 0))
-unfolding blockSize pad padding
+pub empty-padded : pad (blockSize DoublePipe 256) 256 [] ≡ 0x80 ∷ (replicate 173 0 ++ (0x00 ∷ 0x01 ∷ replicate 16 0))
+unfolding blockSize chainingSize pad padding
 empty-padded = ap (λ (e : List ℕ). 0x80 ∷ (replicate 173 0 ++ e)) (sym (lengths-are 256 0 (lit< tt)))
 
-pub abc-padded : pad (blockSize 256) 256 (0x61 ∷ 0x62 ∷ 0x63 ∷ [])
+pub abc-padded : pad (blockSize DoublePipe 256) 256 (0x61 ∷ 0x62 ∷ 0x63 ∷ [])
     ≡ 0x61 ∷ 0x62 ∷ 0x63 ∷ 0x80 ∷ (replicate 170 0 ++ (0x00 ∷ 0x01 ∷ 0x18 ∷ replicate 15 0))
-unfolding blockSize pad padding
+unfolding blockSize chainingSize pad padding
 abc-padded = ap (λ (e : List ℕ). 0x61 ∷ 0x62 ∷ 0x63 ∷ 0x80 ∷ (replicate 170 0 ++ e)) (sym (lengths-are 256 24 (lit< tt)))

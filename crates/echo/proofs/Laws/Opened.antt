@@ -7,6 +7,7 @@ use native.Mathlib.Nat.{mul-zero, zero-add, zero-div, zero-mod}
 use native.Mathlib.Omega.{arith}
 use lib.ListN.{length, replicate, take}
 use Rattle.aes_round.proofs.Laws.Bytes.{length-tab}
+use Rattle.echo.specs.declared.mode.Mode.{Mode}
 use Rattle.echo.specs.declared.session.Session.{Session}
 use Rattle.echo.specs.Digest.{block, blockCount, counterAt, digest, digestOf, initial, iterate}
 use Rattle.echo.specs.Families.{blockSize, chainingSize, roundCount}
@@ -29,52 +30,52 @@ add-pieces s (x ∷ xs) ys = add-pieces (addByte s x) xs ys
 
 -- ---- the bytes of a message, added to an opened session
 
-module _ (h : ℕ) (salt : List ℕ) where
+module _ (mode : Mode) (h : ℕ) (salt : List ℕ) where
   -- the state from the initial chaining variable, behind no block
   unused : List ℕ
-  unused = replicate (128 - chainingSize h) 0
+  unused = replicate (128 - chainingSize mode h) 0
 
   v : List ℕ
-  v = initial (chainingSize h) h
+  v = initial (chainingSize mode h) h
 
-  v-long : length v ≡ chainingSize h
+  v-long : length v ≡ chainingSize mode h
   unfolding v initial
-  v-long = length-tab (chainingSize h) _
+  v-long = length-tab (chainingSize mode h) _
 
-  opened-is : opened h salt ≡ stateFrom h salt v unused 0 []
+  opened-is : opened mode h salt ≡ stateFrom mode h salt v unused 0 []
   unfolding v unused stateFrom chained iterate
-  opened-is = rw (zero-div (blockSize h), zero-mod (blockSize h), mul-zero (blockSize h))
+  opened-is = rw (zero-div (blockSize mode h), zero-mod (blockSize mode h), mul-zero (blockSize mode h))
 
-  opened-state : (m : List ℕ) → addBytes (opened h salt) m ≡ stateFrom h salt v unused 0 m
-  opened-state m = ap (λ (s : Session). addBytes s m) opened-is ∙ add-more h salt v unused 0 v-long [] m
+  opened-state : (m : List ℕ) → addBytes (opened mode h salt) m ≡ stateFrom mode h salt v unused 0 m
+  opened-state m = ap (λ (s : Session). addBytes s m) opened-is ∙ add-more mode h salt v unused 0 v-long [] m
 
-  counted : (m : List ℕ) → blockSize h * 0 + length m ≡ length m
-  counted m = omega (arith, mul-zero (blockSize h))
+  counted : (m : List ℕ) → blockSize mode h * 0 + length m ≡ length m
+  counted m = omega (arith, mul-zero (blockSize mode h))
 
-  pub opened-taken : (m : List ℕ) → addBytes (opened h salt) m .taken ≡ length m
-  opened-taken m = add-counts (opened h salt) m ∙ zero-add (length m)
+  pub opened-taken : (m : List ℕ) → addBytes (opened mode h salt) m .taken ≡ length m
+  opened-taken m = add-counts (opened mode h salt) m ∙ zero-add (length m)
 
-  pub opened-bits : (m : List ℕ) → addBytes (opened h salt) m .bits ≡ h
-  opened-bits m = add-keeps (opened h salt) m .0
+  pub opened-bits : (m : List ℕ) → addBytes (opened mode h salt) m .bits ≡ h
+  opened-bits m = add-keeps (opened mode h salt) m .0
 
-  pub opened-is-session : (m : List ℕ) → admitted h ≡ true → length m ≤ limit → isSession (addBytes (opened h salt) m) ≡ true
+  pub opened-is-session : (m : List ℕ) → admitted h ≡ true → length m ≤ limit → isSession (addBytes (opened mode h salt) m) ≡ true
   unfolding unused
   opened-is-session m a l =
-      ap isSession (opened-state m) ∙ state-is-session h salt v unused 0 v-long m a (omega (arith, counted m)) (zeros-are-zero (128 - chainingSize h))
+      ap isSession (opened-state m) ∙ state-is-session mode h salt v unused 0 v-long m a (omega (arith, counted m)) (zeros-are-zero (128 - chainingSize mode h))
 
   -- what is read is the paper's digest
-  pub opened-digest : (m : List ℕ) → sessionDigest (addBytes (opened h salt) m) ≡ digestOf h salt m
+  pub opened-digest : (m : List ℕ) → sessionDigest (addBytes (opened mode h salt) m) ≡ digestOf mode h salt m
   unfolding sessionDigest digestOf digest pad stateFrom v
   opened-digest m =
       ap sessionDigest (opened-state m)
       ∙ ap (take (h / 8))
-      (state-final h salt v unused 0 v-long m
-      ∙ ap (λ (n : ℕ). iterate c (roundCount c) salt v (block b (m ++ padding b h n)) (λ i. counterAt b n (0 + i)) (blockCount b n - 0)) (counted m)
-      ∙ ap (iterate c (roundCount c) salt v (block b (m ++ padding b h (length m))) (λ i. counterAt b (length m) (0 + i))) (omega arith)
-      ∙ iterate-ext c (roundCount c) salt v _ _ _ _ _ (λ i l. refl) (λ i l. ap (counterAt b (length m)) (zero-add i)))
+      (state-final mode h salt v unused 0 v-long m
+      ∙ ap (λ (n : ℕ). iterate c (roundCount mode c) salt v (block b (m ++ padding b h n)) (λ i. counterAt b n (0 + i)) (blockCount b n - 0)) (counted m)
+      ∙ ap (iterate c (roundCount mode c) salt v (block b (m ++ padding b h (length m))) (λ i. counterAt b (length m) (0 + i))) (omega arith)
+      ∙ iterate-ext c (roundCount mode c) salt v _ _ _ _ _ (λ i l. refl) (λ i l. ap (counterAt b (length m)) (zero-add i)))
     where
       b : ℕ
-      b = blockSize h
+      b = blockSize mode h
 
       c : ℕ
-      c = chainingSize h
+      c = chainingSize mode h

@@ -7,6 +7,7 @@ use Prim.Native.Nat.{ℕ, _+_, _/_, _≤_}
 use native.Mathlib.Nat.{zero-add}
 use native.Mathlib.Omega.{arith}
 use lib.ListN.{drop, length, length-append}
+use Rattle.echo.specs.declared.mode.Mode.{Mode}
 use Rattle.echo.specs.declared.session.Answer.{Answer}
 use Rattle.echo.specs.Digest.{digestOf}
 use Rattle.echo.specs.Pieces.{joined}
@@ -38,41 +39,41 @@ joined-lengths (x ∷ xs) ys = omega (arith, length-append x (joined (xs ++ ys))
 
 -- ---- openings that are refused
 
-pub opening-number : (h : ℕ) (salt : List ℕ) → openAnswer h salt .refusal ≡ firstOf ((1 when not (admitted h)) ∷ (2 when noSalt (length salt)) ∷ [])
+pub opening-number : (mode : Mode) (h : ℕ) (salt : List ℕ) → openAnswer mode h salt .refusal ≡ firstOf ((1 when not (admitted h)) ∷ (2 when noSalt (length salt)) ∷ [])
 unfolding openAnswer openRefusal
-opening-number h salt = refl
+opening-number mode h salt = refl
 
-pub no-digest-of-0-bits : (salt : List ℕ) → openAnswer 0 salt .session ≡ blank
+pub no-digest-of-0-bits : (mode : Mode) (salt : List ℕ) → openAnswer mode 0 salt .session ≡ blank
 unfolding openAnswer openRefusal admitted
-no-digest-of-0-bits salt = refl
+no-digest-of-0-bits mode salt = refl
 
 -- ---- the session that an opening hands out
 
-module _ (h : ℕ) (salt : List ℕ) (a : admitted h ≡ true) where
-  pub opens : length salt ≡ 16 → _≡_ {A = Answer} (openAnswer h salt) (record { refusal = 0; session = opened h salt })
-  opens l = sym (open-0 h salt true (sym a) refl l salt _ (sym (sixteen-are salt l)) refl)
+module _ (mode : Mode) (h : ℕ) (salt : List ℕ) (a : admitted h ≡ true) where
+  pub opens : length salt ≡ 16 → _≡_ {A = Answer} (openAnswer mode h salt) (record { refusal = 0; session = opened mode h salt })
+  opens l = sym (open-0 mode h salt true (sym a) refl l salt _ (sym (sixteen-are salt l)) refl)
 
   pub takes : (m piece : List ℕ) → length m + length piece ≤ limit
-      → _≡_ {A = Answer} (addAnswer (addBytes (opened h salt) m) piece) (record { refusal = 0; session = addBytes (opened h salt) (m ++ piece) })
+      → _≡_ {A = Answer} (addAnswer (addBytes (opened mode h salt) m) piece) (record { refusal = 0; session = addBytes (opened mode h salt) (m ++ piece) })
   takes m piece n =
-      let s = addBytes (opened h salt) m in
-      let is = sym (opened-is-session h salt m a (omega arith)) in
-      sym (added s piece true is refl _ (sym (add-pieces (opened h salt) m piece)) (omega (arith, opened-taken h salt m)))
+      let s = addBytes (opened mode h salt) m in
+      let is = sym (opened-is-session mode h salt m a (omega arith)) in
+      sym (added s piece true is refl _ (sym (add-pieces (opened mode h salt) m piece)) (omega (arith, opened-taken mode h salt m)))
 
   pub reads : (m room : List ℕ) → length m ≤ limit → h / 8 ≤ length room
-      → (_≡_ {A = Answer} (readAnswer (addBytes (opened h salt) m) (length room)) (record { refusal = 0; session = addBytes (opened h salt) m }))
-      × (readLeaves (addBytes (opened h salt) m) room ≡ digestOf h salt m ++ drop (h / 8) room)
+      → (_≡_ {A = Answer} (readAnswer (addBytes (opened mode h salt) m) (length room)) (record { refusal = 0; session = addBytes (opened mode h salt) m }))
+      × (readLeaves (addBytes (opened mode h salt) m) room ≡ digestOf mode h salt m ++ drop (h / 8) room)
   reads m room n l =
-      let s = addBytes (opened h salt) m in
-      let bits = opened-bits h salt m in
-      let is = sym (opened-is-session h salt m a n) in
+      let s = addBytes (opened mode h salt) m in
+      let bits = opened-bits mode h salt m in
+      let is = sym (opened-is-session mode h salt m a n) in
       let fits : s .bits / 8 ≤ length room = rw bits l in (
         sym (read-0 s room true is refl fits),
-        sym (left-0 s room true is refl fits (digestOf h salt m ++ drop (h / 8) room) (rw (opened-digest h salt m, bits) refl)),
+        sym (left-0 s room true is refl fits (digestOf mode h salt m ++ drop (h / 8) room) (rw (opened-digest mode h salt m, bits) refl)),
       )
 
-  pub digest-long : (m : List ℕ) → length (digestOf h salt m) ≡ h / 8
+  pub digest-long : (m : List ℕ) → length (digestOf mode h salt m) ≡ h / 8
   digest-long m =
-      let bits = opened-bits h salt m in
-      let most = admitted-most h salt true (sym a) refl in
-      sym (ap length (opened-digest h salt m)) ∙ session-digest-long (addBytes (opened h salt) m) (rw bits most) ∙ ap (λ (n : ℕ). n / 8) bits
+      let bits = opened-bits mode h salt m in
+      let most = admitted-most mode h salt true (sym a) refl in
+      sym (ap length (opened-digest mode h salt m)) ∙ session-digest-long (addBytes (opened mode h salt) m) (rw bits most) ∙ ap (λ (n : ℕ). n / 8) bits

@@ -15,14 +15,11 @@ use Rattle.echo.specs.Families.{roundCount, sizesFit}
 use Rattle.echo.specs.Routines.{compressLeaves, compressRefusal, roundsRefusal}
 use Rattle.echo.specs.Session.{admitted, digestRefusal, isSession, limit, readAnswer, readRefusal}
 use Rattle.echo.specs.Square.{keysFrom}
+use Rattle.echo.specs.declared.mode.Mode.{Mode}
 use Rattle.echo.specs.declared.session.Answer.{Answer}
 use Rattle.echo.specs.declared.session.Session.{Session}
-use Rattle.echo.proofs.Laws.Families.{Sizes, long-sizes, short-sizes}
+use Rattle.echo.proofs.Laws.Families.{Sizes, sizes-fit}
 use Rattle.echo.proofs.Laws.Words.{sixteen-are}
-
--- with a chaining variable of 64 bytes the block decides
-pub sizes-64 : (c b : ℕ) → c ≡ 64 → eqb b 192 ≡ sizesFit c b
-sizes-64 c b e = subst (λ (n : ℕ). eqb b 192 ≡ sizesFit n b) (sym e) (sym (or-false (eqb b 192)))
 
 -- ---- rounds
 
@@ -52,22 +49,22 @@ module _ (square count counter salt : ℕ) where
 
 -- ---- compression
 
-module _ (chaining block counter salt : ℕ) where
-  pub compress-2 : (salt ≡ 16 → ⊥) → 2 ≡ compressRefusal chaining block counter salt
+module _ (mode : Mode) (chaining block counter salt : ℕ) where
+  pub compress-2 : (salt ≡ 16 → ⊥) → 2 ≡ compressRefusal mode chaining block counter salt
   unfolding compressRefusal
   compress-2 s = simp (ne-eqb salt 16 s)
 
   module _ (s : salt ≡ 16) where
-    module _ (t : Bool) (e : t ≡ sizesFit chaining block) where
-      pub compress-6 : not t ≡ true → 6 ≡ compressRefusal chaining block counter salt
+    module _ (t : Bool) (e : t ≡ sizesFit mode chaining block) where
+      pub compress-6 : not t ≡ true → 6 ≡ compressRefusal mode chaining block counter salt
       unfolding compressRefusal
       compress-6 n = simp (eq-eqb salt 16 s, sym e ∙ not-true t n)
 
-      pub compress-7 : not t ≡ false → 2 ^ 64 - 161 < counter → 7 ≡ compressRefusal chaining block counter salt
+      pub compress-7 : not t ≡ false → 2 ^ 64 - 161 < counter → 7 ≡ compressRefusal mode chaining block counter salt
       unfolding compressRefusal
       compress-7 n k = simp (eq-eqb salt 16 s, sym e ∙ not-false t n, lt-ltb (2 ^ 64 - 161) counter k)
 
-      pub compress-0 : not t ≡ false → counter ≤ 2 ^ 64 - 161 → 0 ≡ compressRefusal chaining block counter salt
+      pub compress-0 : not t ≡ false → counter ≤ 2 ^ 64 - 161 → 0 ≡ compressRefusal mode chaining block counter salt
       unfolding compressRefusal
       compress-0 n k = simp (eq-eqb salt 16 s, sym e ∙ not-false t n, le-ltb (2 ^ 64 - 161) counter k)
 
@@ -145,37 +142,21 @@ read-fits s room e z =
 pub done : {A : Type 0} (n : ℕ) (a b : A) → n ≡ 0 → unless n a b ≡ a
 done n a b e = ap (λ (k : ℕ). unless k a b) e
 
-sizes-fit : (c b : ℕ) → sizesFit c b ≡ true → Sizes c b
-sizes-fit c b e = short (eqb c 64) (eqb b 192) (eqb c 128) (eqb b 128) refl refl refl refl e
-  where
-    these : {x y : ℕ} → c ≡ x → b ≡ y → Sizes x y → Sizes c b
-    these p q S = rw (p, q) S
-
-    long : (p q : Bool) → eqb c 128 ≡ p → eqb b 128 ≡ q → (p && q) ≡ true → Sizes c b
-    long true true p q e = these (eqb-true c 128 p) (eqb-true b 128 q) long-sizes
-    long true false p q e = absurd (true≢false (sym e))
-    long false q′ p q e = absurd (true≢false (sym e))
-
-    short : (p q r s : Bool) → eqb c 64 ≡ p → eqb b 192 ≡ q → eqb c 128 ≡ r → eqb b 128 ≡ s → (p && q || r && s) ≡ true → Sizes c b
-    short true true r s p q u v e = these (eqb-true c 64 p) (eqb-true b 192 q) short-sizes
-    short true false r s p q u v e = long r s u v e
-    short false q′ r s p q u v e = long r s u v e
-
-record CompressFit (chaining block counter salt : ℕ) : Type 0 where
+record CompressFit (mode : Mode) (chaining block counter salt : ℕ) : Type 0 where
   salt-fits : salt ≡ 16
-  sizes-are : Sizes chaining block
+  sizes-are : Sizes chaining block (roundCount mode chaining)
   counter-fits : counter ≤ 2 ^ 64 - 161
 
-compress-fit : (chaining block counter salt : ℕ) → compressRefusal chaining block counter salt ≡ 0 → CompressFit chaining block counter salt
+compress-fit : (mode : Mode) (chaining block counter salt : ℕ) → compressRefusal mode chaining block counter salt ≡ 0 → CompressFit mode chaining block counter salt
 unfolding compressRefusal
-compress-fit chaining block counter salt e =
+compress-fit mode chaining block counter salt e =
     let high = ltb (2 ^ 64 - 161) counter in
-    let a = none-first 2 (not (eqb salt 16)) ((6 when not (sizesFit chaining block)) ∷ (7 when high) ∷ []) (λ z. omega arith) e in
-    let b = none-first 6 (not (sizesFit chaining block)) ((7 when high) ∷ []) (λ z. omega arith) (a .1) in
+    let a = none-first 2 (not (eqb salt 16)) ((6 when not (sizesFit mode chaining block)) ∷ (7 when high) ∷ []) (λ z. omega arith) e in
+    let b = none-first 6 (not (sizesFit mode chaining block)) ((7 when high) ∷ []) (λ z. omega arith) (a .1) in
     let c = none-first 7 high [] (λ z. omega arith) (b .1) in
     record {
       salt-fits = eqb-true salt 16 (not-false (eqb salt 16) (a .0));
-      sizes-are = sizes-fit chaining block (not-false (sizesFit chaining block) (b .0));
+      sizes-are = sizes-fit mode chaining block (not-false (sizesFit mode chaining block) (b .0));
       counter-fits = ltb-false (2 ^ 64 - 161) counter (c .0);
     }
 
@@ -203,10 +184,10 @@ module _ (square : List ℕ) (count counter : ℕ) (salt : List ℕ) (r : ℕ) (
   pub rounds-counters : counter + 16 * count ≤ 2 ^ 64
   rounds-counters = ⊎-elim (λ e. omega (arith, fit .counter-fits)) (λ e. omega (arith, fit .counter-fits)) (fit .count-fits)
 
-module _ (chaining block : List ℕ) (counter : ℕ) (salt : List ℕ) (r : ℕ) (e : r ≡ compressRefusal (length chaining) (length block) counter (length salt))
+module _ (mode : Mode) (chaining block : List ℕ) (counter : ℕ) (salt : List ℕ) (r : ℕ) (e : r ≡ compressRefusal mode (length chaining) (length block) counter (length salt))
     (none : r ≡ 0) where
-  fits : CompressFit (length chaining) (length block) counter (length salt)
-  fits = compress-fit (length chaining) (length block) counter (length salt) (sym e ∙ none)
+  fits : CompressFit mode (length chaining) (length block) counter (length salt)
+  fits = compress-fit mode (length chaining) (length block) counter (length salt) (sym e ∙ none)
 
   pub compress-salt : 0 + 16 ≤ length salt
   compress-salt = omega (arith, fits .salt-fits)
@@ -220,11 +201,11 @@ module _ (chaining block : List ℕ) (counter : ℕ) (salt : List ℕ) (r : ℕ)
   pub compress-parts : 256 ≡ length chaining * (256 / length chaining)
   compress-parts = fits .sizes-are .parts
 
-  pub compress-counters : (n : ℕ) → n ≡ roundCount (length chaining) → counter + 16 * n ≤ 2 ^ 64
+  pub compress-counters : (n : ℕ) → n ≡ roundCount mode (length chaining) → counter + 16 * n ≤ 2 ^ 64
   compress-counters n c = omega (arith, fits .sizes-are .rounds-most, fits .counter-fits)
 
-  pub compress-done : (n : ℕ) (x last : List ℕ) → n ≡ roundCount (length chaining) → x ≡ tab 16 (λ k. getD salt (0 + k) 0)
-      → last ≡ compress (length chaining) n (keysFrom counter) x chaining block → last ≡ compressLeaves chaining block counter salt
+  pub compress-done : (n : ℕ) (x last : List ℕ) → n ≡ roundCount mode (length chaining) → x ≡ tab 16 (λ k. getD salt (0 + k) 0)
+      → last ≡ compress (length chaining) n (keysFrom counter) x chaining block → last ≡ compressLeaves mode chaining block counter salt
   unfolding compressLeaves
   compress-done n x last c s d =
       d

@@ -9,6 +9,7 @@ use lib.Dec.{leb}
 use lib.ListN.{drop, getD, length, replicate, take, take-append-drop}
 use lib.Seq.{length-take-le, take-append-le}
 use Rattle.aes_round.specs.Bytes.{tab}
+use Rattle.echo.specs.declared.mode.Mode.{Mode}
 use Rattle.echo.specs.declared.session.Answer.{Answer}
 use Rattle.echo.specs.declared.session.Session.{Session}
 use Rattle.echo.specs.Digest.{initial}
@@ -16,7 +17,7 @@ use Rattle.echo.specs.Families.{blockSize, chainingSize}
 use Rattle.echo.specs.Placed.{Placed}
 use Rattle.echo.specs.Session.{addAnswer, addBytes, addRefusal, admitted, allZero, blank, finalChaining, isSession, limit, made, openAnswer}
 use Rattle.echo.specs.Session.{openRefusal, readAnswer, readLeaves, readRefusal, sessionDigest}
-use Rattle.echo.proofs.Laws.Families.{sizes}
+use Rattle.echo.proofs.Laws.Families.{digest-in-chaining, sizes}
 use Rattle.echo.proofs.Laws.Placed.{placed-front}
 use Rattle.echo.proofs.Laws.Words.{sixteen-are}
 
@@ -32,15 +33,15 @@ module _ (s : Session) (a : Bool) (e : a ≡ admitted (s .bits)) where
     unfolding isSession
     is-too-long n = rw (← e, not-false a holds, lt-leb (s .taken) limit n)
 
-    module _ (n : s .taken ≤ limit) (b : ℕ) (size : b ≡ blockSize (s .bits)) (w : Bool) (z : w ≡ allZero (drop (s .taken % b) (s .waiting))) where
-      rest-is : w ≡ allZero (drop (s .taken % blockSize (s .bits)) (s .waiting))
+    module _ (n : s .taken ≤ limit) (b : ℕ) (size : b ≡ blockSize (s .mode) (s .bits)) (w : Bool) (z : w ≡ allZero (drop (s .taken % b) (s .waiting))) where
+      rest-is : w ≡ allZero (drop (s .taken % blockSize (s .mode) (s .bits)) (s .waiting))
       rest-is = z ∙ ap (λ (x : ℕ). allZero (drop (s .taken % x) (s .waiting))) size
 
       pub is-not-clear : not w ≡ true → false ≡ isSession s
       unfolding isSession
       is-not-clear fails = rw (← e, not-false a holds, le-leb (s .taken) limit n, ← rest-is, not-true w fails)
 
-      pub is-clear : not w ≡ false → (c : ℕ) (v : Bool) → v ≡ allZero (drop c (s .chaining)) → c ≡ chainingSize (s .bits) → v ≡ isSession s
+      pub is-clear : not w ≡ false → (c : ℕ) (v : Bool) → v ≡ allZero (drop c (s .chaining)) → c ≡ chainingSize (s .mode) (s .bits) → v ≡ isSession s
       unfolding isSession
       is-clear clear c v q p =
           rw (← e, not-false a holds, le-leb (s .taken) limit n, ← rest-is, not-false w clear)
@@ -58,15 +59,15 @@ most-bits h e = leb-true h 512 (both (leb h 512) _ (both (leb 128 h) _ e .1) .0)
 pub record SessionFits (s : Session) : Type 0 where
   pub admits : admitted (s .bits) ≡ true
   pub taken-fits : s .taken ≤ limit
-  pub waiting-zero : allZero (drop (s .taken % blockSize (s .bits)) (s .waiting)) ≡ true
-  pub chaining-zero : allZero (drop (chainingSize (s .bits)) (s .chaining)) ≡ true
+  pub waiting-zero : allZero (drop (s .taken % blockSize (s .mode) (s .bits)) (s .waiting)) ≡ true
+  pub chaining-zero : allZero (drop (chainingSize (s .mode) (s .bits)) (s .chaining)) ≡ true
 
 pub session-fits : (s : Session) → isSession s ≡ true → SessionFits s
 unfolding isSession
 session-fits s e =
     let p = both (admitted (s .bits)) _ e in
     let q = both (leb (s .taken) limit) _ (p .1) in
-    let r = both (allZero (drop (s .taken % blockSize (s .bits)) (s .waiting))) _ (q .1) in
+    let r = both (allZero (drop (s .taken % blockSize (s .mode) (s .bits)) (s .waiting))) _ (q .1) in
     record { admits = p .0; taken-fits = leb-true (s .taken) limit (q .0); waiting-zero = r .0; chaining-zero = r .1 }
 
 -- what code that found a session by the test a knows of it
@@ -83,7 +84,7 @@ module _ (s : Session) (a : Bool) (e : a ≡ isSession s) (holds : not a ≡ fal
   pub taken-most : s .taken ≤ limit
   taken-most = fits .taken-fits
 
-  pub rest-zero : allZero (drop (s .taken % blockSize (s .bits)) (s .waiting)) ≡ true
+  pub rest-zero : allZero (drop (s .taken % blockSize (s .mode) (s .bits)) (s .waiting)) ≡ true
   rest-zero = fits .waiting-zero
 
 -- ---- what adding answers
@@ -108,8 +109,8 @@ module _ (s : Session) (piece : List ℕ) (a : Bool) (e : a ≡ isSession s) whe
 
 -- ---- opening
 
-module _ (h : ℕ) (salt : List ℕ) (a : Bool) (e : a ≡ admitted h) where
-  pub open-1 : not a ≡ true → (s : Session) → s ≡ blank → _≡_ {A = Answer} (record { refusal = 1; session = s }) (openAnswer h salt)
+module _ (mode : Mode) (h : ℕ) (salt : List ℕ) (a : Bool) (e : a ≡ admitted h) where
+  pub open-1 : not a ≡ true → (s : Session) → s ≡ blank → _≡_ {A = Answer} (record { refusal = 1; session = s }) (openAnswer mode h salt)
   unfolding openAnswer openRefusal
   open-1 fails s b = rw (← e, not-true a fails, b)
 
@@ -117,26 +118,27 @@ module _ (h : ℕ) (salt : List ℕ) (a : Bool) (e : a ≡ admitted h) where
     pub admitted-most : h ≤ 512
     admitted-most = most-bits h (sym e ∙ not-false a holds)
 
-    pub open-2 : (length salt ≡ 16 → ⊥) → (s : Session) → s ≡ blank → _≡_ {A = Answer} (record { refusal = 2; session = s }) (openAnswer h salt)
+    pub open-2 : (length salt ≡ 16 → ⊥) → (s : Session) → s ≡ blank → _≡_ {A = Answer} (record { refusal = 2; session = s }) (openAnswer mode h salt)
     unfolding openAnswer openRefusal
     open-2 l s b = rw (← e, not-false a holds, ne-eqb (length salt) 16 l, b)
 
     pub open-0 : length salt ≡ 16 → (own v : List ℕ) → own ≡ tab 16 (λ k. getD salt (0 + k) 0)
-        → v ≡ initial (chainingSize h) h ++ replicate (128 - chainingSize h) 0
-        → _≡_ {A = Answer} (record { refusal = 0; session = made h own v 0 (replicate 192 0) }) (openAnswer h salt)
+        → v ≡ initial (chainingSize mode h) h ++ replicate (128 - chainingSize mode h) 0
+        → _≡_ {A = Answer} (record { refusal = 0; session = made mode h own v 0 (replicate 224 0) }) (openAnswer mode h salt)
     unfolding openAnswer openRefusal
     open-0 l own v o c = rw (← e, not-false a holds, eq-eqb (length salt) 16 l, o ∙ sixteen-are salt l, c)
 
 -- ---- reading
 
 -- the first n bytes of the chaining room are those of the chaining variable
-cut : (s : Session) (v : List ℕ) → length v ≡ 128 → s .bits ≤ 512 → take (chainingSize (s .bits)) v ≡ finalChaining s → take (s .bits / 8) v ≡ sessionDigest s
+cut : (s : Session) (v : List ℕ) → length v ≡ 128 → s .bits ≤ 512 → take (chainingSize (s .mode) (s .bits)) v ≡ finalChaining s → take (s .bits / 8) v ≡ sessionDigest s
 unfolding sessionDigest
 cut s v l h e =
-    let S = sizes (s .bits) in
-    ap (take (s .bits / 8)) (sym (take-append-drop (chainingSize (s .bits)) v))
-    ∙ take-append-le (s .bits / 8) (take (chainingSize (s .bits)) v) (drop (chainingSize (s .bits)) v)
-    (omega (arith, length-take-le (chainingSize (s .bits)) v (omega arith)))
+    let S = sizes (s .mode) (s .bits) in
+    let within = digest-in-chaining (s .mode) (s .bits) h in
+    ap (take (s .bits / 8)) (sym (take-append-drop (chainingSize (s .mode) (s .bits)) v))
+    ∙ take-append-le (s .bits / 8) (take (chainingSize (s .mode) (s .bits)) v) (drop (chainingSize (s .mode) (s .bits)) v)
+    (omega (arith, length-take-le (chainingSize (s .mode) (s .bits)) v (omega arith)))
     ∙ ap (take (s .bits / 8)) e
 
 module _ (s : Session) (room : List ℕ) (a : Bool) (e : a ≡ isSession s) where
@@ -178,7 +180,7 @@ module _ (s : Session) (room : List ℕ) (a : Bool) (e : a ≡ isSession s) wher
         digest-fits = omega (arith, digest-long)
 
         pub left-digest : (r : List ℕ) → Placed room 0 (take (s .bits / 8) v) (length (take (s .bits / 8) v)) r
-            → take (chainingSize (s .bits)) v ≡ finalChaining s → r ≡ readLeaves s room
+            → take (chainingSize (s .mode) (s .bits)) v ≡ finalChaining s → r ≡ readLeaves s room
         left-digest r P f =
             left-0 l r
             (placed-front room (take (s .bits / 8) v) r (s .bits / 8) (sym digest-long) l

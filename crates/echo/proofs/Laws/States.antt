@@ -9,6 +9,7 @@ use native.Mathlib.Nat.{add-assoc, eq-or-lt-of-le, mod-lt, mul-add, mul-add-div,
 use native.Mathlib.Omega.{arith}
 use lib.ListN.{drop, length, replicate, take}
 use lib.Seq.{drop-at, take-at}
+use Rattle.echo.specs.declared.mode.Mode.{Mode}
 use Rattle.echo.specs.declared.session.Session.{Session}
 use Rattle.echo.specs.Compression.{compress}
 use Rattle.echo.specs.Digest.{block, blockCount, counterAt, iterate}
@@ -46,15 +47,15 @@ zeros-are-zero (suc k) = zeros-are-zero k
 zeros-behind : (xs : List ℕ) (n k : ℕ) → length xs ≡ n → allZero (drop n (xs ++ replicate k 0)) ≡ true
 zeros-behind xs n k e = rw drop-at (zeros-are-zero k)
 
-pub made-eq : {h m n : ℕ} {salt u w x y : List ℕ} → u ≡ w → m ≡ n → x ≡ y → made h salt u m x ≡ made h salt w n y
+pub made-eq : {mode : Mode} {h m n : ℕ} {salt u w x y : List ℕ} → u ≡ w → m ≡ n → x ≡ y → made mode h salt u m x ≡ made mode h salt w n y
 made-eq p r s = rw (p, r, s)
 
-module _ (h : ℕ) (salt v rest : List ℕ) (q : ℕ) where
+module _ (mode : Mode) (h : ℕ) (salt v rest : List ℕ) (q : ℕ) where
   abbrev b : ℕ
-  b = blockSize h
+  b = blockSize mode h
 
   abbrev c : ℕ
-  c = chainingSize h
+  c = chainingSize mode h
 
   -- the message bytes taken
   abbrev count : List ℕ → ℕ
@@ -62,10 +63,10 @@ module _ (h : ℕ) (salt v rest : List ℕ) (q : ℕ) where
 
   -- the chaining variable after the first t blocks of m
   unfoldable pub chained : List ℕ → ℕ → List ℕ
-  chained m = iterate c (roundCount c) salt v (block b m) (λ i. 8 * (b * (q + i) + b))
+  chained m = iterate c (roundCount mode c) salt v (block b m) (λ i. 8 * (b * (q + i) + b))
 
   unfoldable pub stateFrom : List ℕ → Session
-  stateFrom m = made h salt (chained m (length m / b) ++ rest) (count m) (drop (b * (length m / b)) m ++ replicate (192 - length m % b) 0)
+  stateFrom m = made mode h salt (chained m (length m / b) ++ rest) (count m) (drop (b * (length m / b)) m ++ replicate (224 - length m % b) 0)
 
   -- ---- numbers
 
@@ -73,31 +74,31 @@ module _ (h : ℕ) (salt v rest : List ℕ) (q : ℕ) where
   count-rest m = mul-add-mod-self-left b q (length m)
 
   count-blocks : (m : List ℕ) → count m / b ≡ q + length m / b
-  count-blocks m = mul-add-div (block-pos h) q (length m)
+  count-blocks m = mul-add-div (block-pos mode h) q (length m)
 
   count-snoc : (m : List ℕ) (x : ℕ) → count (m ++ x ∷ []) ≡ count m + 1
   count-snoc m x = omega (arith, length-snoc m x)
 
-  block-fits : b ≤ 192
-  block-fits = sizes h .block-most
+  block-fits : b ≤ 224
+  block-fits = sizes mode h .block-most
 
   -- full blocks stay
   chained-stays : (xs ys : List ℕ) → chained (xs ++ ys) (length xs / b) ≡ chained xs (length xs / b)
   unfolding chained
-  chained-stays xs ys = iterate-ext _ _ salt _ _ _ _ _ _ (block-stays b (block-pos h) xs ys) (λ i l. refl)
+  chained-stays xs ys = iterate-ext _ _ salt _ _ _ _ _ _ (block-stays b (block-pos mode h) xs ys) (λ i l. refl)
 
   chained-more : (xs : List ℕ) (x : ℕ) → length xs % b + 1 < b → chained xs (length xs / b) ≡ chained (xs ++ x ∷ []) (length (xs ++ x ∷ []) / b)
-  chained-more xs x l = sym (ap (chained (xs ++ x ∷ [])) (count-more b (block-pos h) xs x l) ∙ chained-stays xs (x ∷ []))
+  chained-more xs x l = sym (ap (chained (xs ++ x ∷ [])) (count-more b (block-pos mode h) xs x l) ∙ chained-stays xs (x ∷ []))
 
   -- the counter of a block that a byte fills
   filled-counter : (xs : List ℕ) (x : ℕ) → length xs % b + 1 ≡ b → b * (q + length xs / b) + b ≡ count xs + 1
-  filled-counter xs x e = omega (arith, mul-add b q (length xs / b), counter-full b (block-pos h) xs x e)
+  filled-counter xs x e = omega (arith, mul-add b q (length xs / b), counter-full b (block-pos mode h) xs x e)
 
   chained-full : (xs : List ℕ) (x : ℕ) → length xs % b + 1 ≡ b
       → chained (xs ++ x ∷ []) (length (xs ++ x ∷ []) / b)
-      ≡ compress c (roundCount c) (keysFrom (8 * (count xs + 1))) salt (chained xs (length xs / b)) (block b (xs ++ x ∷ []) (length xs / b))
+      ≡ compress c (roundCount mode c) (keysFrom (8 * (count xs + 1))) salt (chained xs (length xs / b)) (block b (xs ++ x ∷ []) (length xs / b))
   unfolding chained iterate
-  chained-full xs x e = rw (count-full b (block-pos h) xs x e, chained-stays xs (x ∷ []), filled-counter xs x e)
+  chained-full xs x e = rw (count-full b (block-pos mode h) xs x e, chained-stays xs (x ∷ []), filled-counter xs x e)
 
   module _ (lv : length v ≡ c) where
     length-chained : (m : List ℕ) (t : ℕ) → length (chained m t) ≡ c
@@ -115,21 +116,21 @@ module _ (h : ℕ) (salt v rest : List ℕ) (q : ℕ) where
 
     add-one-byte : (xs : List ℕ) (x : ℕ) → addByte (stateFrom xs) x ≡ stateFrom (xs ++ x ∷ [])
     unfolding stateFrom
-    add-one-byte xs x = ⊎-elim full more (eq-or-lt-of-le (mod-lt (length xs) (block-pos h)))
+    add-one-byte xs x = ⊎-elim full more (eq-or-lt-of-le (mod-lt (length xs) (block-pos mode h)))
       where
         full : suc (length xs % b) ≡ b → addByte (stateFrom xs) x ≡ stateFrom (xs ++ x ∷ [])
         full e =
             let f : length xs % b + 1 ≡ b = omega arith in
-            sym (put-full h (count xs) (length xs % b) b (sym (count-rest xs)) refl (omega arith) x salt _ _
-            (chained (xs ++ x ∷ []) (length (xs ++ x ∷ []) / b) ++ rest) (replicate 192 0)
-            (rw (chained-full xs x f, room-used xs (length xs / b), room-rest xs (length xs / b), stored-full b (block-pos h) xs x f 192 block-fits)) refl)
-            ∙ made-eq refl (sym (count-snoc xs x)) (nothing-waits b (block-pos h) xs x f 192)
+            sym (put-full mode h (count xs) (length xs % b) b (sym (count-rest xs)) refl (omega arith) x salt _ _
+            (chained (xs ++ x ∷ []) (length (xs ++ x ∷ []) / b) ++ rest) (replicate 224 0)
+            (rw (chained-full xs x f, room-used xs (length xs / b), room-rest xs (length xs / b), stored-full b (block-pos mode h) xs x f 224 block-fits)) refl)
+            ∙ made-eq refl (sym (count-snoc xs x)) (nothing-waits b (block-pos mode h) xs x f 224)
 
         more : suc (length xs % b) < b → addByte (stateFrom xs) x ≡ stateFrom (xs ++ x ∷ [])
         more e =
             let l : length xs % b + 1 < b = omega arith in
-            sym (put-more h (count xs) (length xs % b) b (sym (count-rest xs)) refl l x salt _ _)
-            ∙ made-eq (ap (λ (u : List ℕ). u ++ rest) (chained-more xs x l)) (sym (count-snoc xs x)) (stored-more b (block-pos h) xs x l 192 block-fits)
+            sym (put-more mode h (count xs) (length xs % b) b (sym (count-rest xs)) refl l x salt _ _)
+            ∙ made-eq (ap (λ (u : List ℕ). u ++ rest) (chained-more xs x l)) (sym (count-snoc xs x)) (stored-more b (block-pos mode h) xs x l 224 block-fits)
 
     pub add-more : (xs ys : List ℕ) → addBytes (stateFrom xs) ys ≡ stateFrom (xs ++ ys)
     unfolding addBytes
@@ -143,17 +144,17 @@ module _ (h : ℕ) (salt v rest : List ℕ) (q : ℕ) where
     state-is-session m a l z =
         sym (is-clear (stateFrom m) true (sym a) refl l b refl true (sym waits) refl c true (sym (ap allZero (room-rest m (length m / b)) ∙ z)) refl)
       where
-        waits : allZero (drop (count m % b) (drop (b * (length m / b)) m ++ replicate (192 - length m % b) 0)) ≡ true
-        waits = rw (count-rest m) (zeros-behind (drop (b * (length m / b)) m) (length m % b) (192 - length m % b) (length-rest b (block-pos h) m))
+        waits : allZero (drop (count m % b) (drop (b * (length m / b)) m ++ replicate (224 - length m % b) 0)) ≡ true
+        waits = rw (count-rest m) (zeros-behind (drop (b * (length m / b)) m) (length m % b) (224 - length m % b) (length-rest b (block-pos mode h) m))
 
     -- ---- what is read: the paper's iteration from v, over the bytes since and the padding
 
     pub state-final : (m : List ℕ)
         → finalChaining (stateFrom m)
-        ≡ iterate c (roundCount c) salt v (block b (m ++ padding b h (count m))) (λ i. counterAt b (count m) (q + i)) (blockCount b (count m) - q)
+        ≡ iterate c (roundCount mode c) salt v (block b (m ++ padding b h (count m))) (λ i. counterAt b (count m) (q + i)) (blockCount b (count m) - q)
     unfolding finalChaining stateFrom chained
     state-final m =
-        rw (room-used m t, count-rest m, take-at (drop (b * t) m) _ (length m % b) (length-rest b (block-pos h) m), count-blocks m) (sym whole)
+        rw (room-used m t, count-rest m, take-at (drop (b * t) m) _ (length m % b) (length-rest b (block-pos mode h) m), count-blocks m) (sym whole)
       where
         t : ℕ
         t = length m / b
@@ -171,15 +172,15 @@ module _ (h : ℕ) (salt v rest : List ℕ) (q : ℕ) where
         behind = drop (b * t) m ++ p
 
         all : blockCount b n - q ≡ t + left
-        all = omega (arith, blocks-left b (block-pos h) n, count-blocks m)
+        all = omega (arith, blocks-left b (block-pos mode h) n, count-blocks m)
 
-        whole : iterate c (roundCount c) salt v (block b (m ++ p)) (λ i. counterAt b n (q + i)) (blockCount b n - q)
-            ≡ iterate c (roundCount c) salt (chained m t) (block b behind) (λ i. counterAt b n (q + t + i)) left
+        whole : iterate c (roundCount mode c) salt v (block b (m ++ p)) (λ i. counterAt b n (q + i)) (blockCount b n - q)
+            ≡ iterate c (roundCount mode c) salt (chained m t) (block b behind) (λ i. counterAt b n (q + t + i)) left
         whole =
-            ap (iterate c (roundCount c) salt v (block b (m ++ p)) (λ i. counterAt b n (q + i))) all
-            ∙ iterate-on c (roundCount c) salt v (block b (m ++ p)) (λ i. counterAt b n (q + i)) t left
-            ∙ iterate-ext c (roundCount c) salt _ _ (block b behind) _ (λ i. counterAt b n (q + t + i)) left
-            (λ i l. block-rest b (block-pos h) m p i) (λ i l. ap (counterAt b n) (sym (add-assoc q t i)))
-            ∙ ap (λ (u : List ℕ). iterate c (roundCount c) salt u (block b behind) (λ i. counterAt b n (q + t + i)) left)
-            (iterate-ext c (roundCount c) salt v _ _ _ _ t (block-stays b (block-pos h) m p)
-            (λ i l. counter-full-block b (block-pos h) n (q + i) (omega (arith, l, count-blocks m))))
+            ap (iterate c (roundCount mode c) salt v (block b (m ++ p)) (λ i. counterAt b n (q + i))) all
+            ∙ iterate-on c (roundCount mode c) salt v (block b (m ++ p)) (λ i. counterAt b n (q + i)) t left
+            ∙ iterate-ext c (roundCount mode c) salt _ _ (block b behind) _ (λ i. counterAt b n (q + t + i)) left
+            (λ i l. block-rest b (block-pos mode h) m p i) (λ i l. ap (counterAt b n) (sym (add-assoc q t i)))
+            ∙ ap (λ (u : List ℕ). iterate c (roundCount mode c) salt u (block b behind) (λ i. counterAt b n (q + t + i)) left)
+            (iterate-ext c (roundCount mode c) salt v _ _ _ _ t (block-stays b (block-pos mode h) m p)
+            (λ i l. counter-full-block b (block-pos mode h) n (q + i) (omega (arith, l, count-blocks m))))

@@ -11,6 +11,7 @@ use lib.ListN.{drop, getD, getD-replicate, length, length-replicate, replicate, 
 use lib.Seq.{drop-cons, drop-length, length-take-le}
 use Rattle.aes_round.specs.Bytes.{tab}
 use Rattle.aes_round.proofs.Laws.Bytes.{is-tab}
+use Rattle.echo.specs.declared.mode.Mode.{Mode}
 use Rattle.echo.specs.declared.session.Session.{Session}
 use Rattle.echo.specs.Compression.{compress}
 use Rattle.echo.specs.Families.{blockSize, chainingSize, roundCount}
@@ -40,133 +41,133 @@ module _ (xs : List ℕ) (i : ℕ) (r : Bool) (e : allZero (drop i xs) ≡ r) wh
 
 -- ---- the place of the next byte; b is a block size that the code computed
 
-pub some-block : (h b : ℕ) → b ≡ blockSize h → 0 < b
-some-block h b size = omega (arith, block-pos h)
+pub some-block : (mode : Mode) (h b : ℕ) → b ≡ blockSize mode h → 0 < b
+some-block mode h b size = omega (arith, block-pos mode h)
 
-module _ (h n at : ℕ) (place : at ≡ n % blockSize h) where
-  place-small : at < 192
-  place-small = let S = sizes h in omega (arith, mod-lt n (block-pos h))
+module _ (mode : Mode) (h n at : ℕ) (place : at ≡ n % blockSize mode h) where
+  place-small : at < 224
+  place-small = let S = sizes mode h in omega (arith, mod-lt n (block-pos mode h))
 
   pub next-fits : at + 1 < 2 ^ 64
   next-fits = omega (arith, place-small)
 
-  pub place-within : (w : List ℕ) → length w ≡ 192 → at < length w
+  pub place-within : (w : List ℕ) → length w ≡ 224 → at < length w
   place-within w lw = omega (arith, place-small)
 
 -- the same of a place that the code computed
-module _ (h n b : ℕ) (size : b ≡ blockSize h) where
-  same-place : n % b ≡ n % blockSize h
+module _ (mode : Mode) (h n b : ℕ) (size : b ≡ blockSize mode h) where
+  same-place : n % b ≡ n % blockSize mode h
   same-place = ap (λ (x : ℕ). n % x) size
 
   pub padding-fits : n % b + 19 < 2 ^ 64
-  padding-fits = omega (arith, place-small h n (n % b) same-place)
+  padding-fits = omega (arith, place-small mode h n (n % b) same-place)
 
-  pub place-in : (w : List ℕ) → length w ≡ 192 → n % b < length w
-  place-in = place-within h n (n % b) same-place
+  pub place-in : (w : List ℕ) → length w ≡ 224 → n % b < length w
+  place-in = place-within mode h n (n % b) same-place
 
 -- ---- one byte more, at its place
 
-module _ (bits taken at b : ℕ) (place : at ≡ taken % blockSize bits) (size : b ≡ blockSize bits) where
+module _ (mode : Mode) (bits taken at b : ℕ) (place : at ≡ taken % blockSize mode bits) (size : b ≡ blockSize mode bits) where
   -- a byte that waits
   module _ (h : at + 1 < b) where
-    waits : taken % blockSize bits + 1 < blockSize bits
+    waits : taken % blockSize mode bits + 1 < blockSize mode bits
     waits = omega arith
 
-    pub next-place : at + 1 ≡ (taken + 1) % blockSize bits
-    next-place = ap (λ (n : ℕ). n + 1) place ∙ sym (mod-more (blockSize bits) (block-pos bits) taken waits)
+    pub next-place : at + 1 ≡ (taken + 1) % blockSize mode bits
+    next-place = ap (λ (n : ℕ). n + 1) place ∙ sym (mod-more (blockSize mode bits) (block-pos mode bits) taken waits)
 
-    pub put-more : (x : ℕ) (salt v w : List ℕ) → made bits salt v (taken + 1) (set w at x) ≡ addByte (made bits salt v taken w) x
+    pub put-more : (x : ℕ) (salt v w : List ℕ) → made mode bits salt v (taken + 1) (set w at x) ≡ addByte (made mode bits salt v taken w) x
     unfolding addByte
-    put-more x salt v w = rw (place, ne-eqb (taken % blockSize bits + 1) (blockSize bits) (λ p. omega (arith, waits)))
+    put-more x salt v w = rw (place, ne-eqb (taken % blockSize mode bits + 1) (blockSize mode bits) (λ p. omega (arith, waits)))
 
   -- a byte that fills the block
   module _ (h : b ≤ at + 1) where
-    fills : taken % blockSize bits + 1 ≡ blockSize bits
-    fills = omega (arith, mod-lt taken (block-pos bits))
+    fills : taken % blockSize mode bits + 1 ≡ blockSize mode bits
+    fills = omega (arith, mod-lt taken (block-pos mode bits))
 
-    pub first-place : 0 ≡ (taken + 1) % blockSize bits
-    first-place = sym (mod-full (blockSize bits) (block-pos bits) taken fills)
+    pub first-place : 0 ≡ (taken + 1) % blockSize mode bits
+    first-place = sym (mod-full (blockSize mode bits) (block-pos mode bits) taken fills)
 
-    pub put-full : (x : ℕ) (salt v w u z : List ℕ) → u ≡ compressed bits salt v (8 * (taken + 1)) (take (blockSize bits) (set w at x))
-        → z ≡ replicate 192 0 → made bits salt u (taken + 1) z ≡ addByte (made bits salt v taken w) x
+    pub put-full : (x : ℕ) (salt v w u z : List ℕ) → u ≡ compressed mode bits salt v (8 * (taken + 1)) (take (blockSize mode bits) (set w at x))
+        → z ≡ replicate 224 0 → made mode bits salt u (taken + 1) z ≡ addByte (made mode bits salt v taken w) x
     unfolding addByte
-    put-full x salt v w u z p q = rw (p, q, place, eq-eqb (taken % blockSize bits + 1) (blockSize bits) fills)
+    put-full x salt v w u z p q = rw (p, q, place, eq-eqb (taken % blockSize mode bits + 1) (blockSize mode bits) fills)
 
 -- ---- a piece, byte by byte
 
 -- i bytes of a piece are taken: v and w are the rooms then, and `at` the place of the next byte
-pub record Absorbed (bits taken : ℕ) (salt v₀ w₀ piece : List ℕ) (i : ℕ) (v w : List ℕ) (at : ℕ) : Type 0 where
+pub record Absorbed (mode : Mode) (bits taken : ℕ) (salt v₀ w₀ piece : List ℕ) (i : ℕ) (v w : List ℕ) (at : ℕ) : Type 0 where
   pub within : i ≤ length piece
   pub chains : length v ≡ 128
-  pub waits : length w ≡ 192
-  pub place : at ≡ (taken + i) % blockSize bits
-  pub leads : addBytes (made bits salt v (taken + i) w) (drop i piece) ≡ addBytes (made bits salt v₀ taken w₀) piece
+  pub waits : length w ≡ 224
+  pub place : at ≡ (taken + i) % blockSize mode bits
+  pub leads : addBytes (made mode bits salt v (taken + i) w) (drop i piece) ≡ addBytes (made mode bits salt v₀ taken w₀) piece
 
-module _ (bits taken : ℕ) (salt v₀ w₀ piece : List ℕ) where
-  pub absorb-none : (b : ℕ) → b ≡ blockSize bits → length v₀ ≡ 128 → length w₀ ≡ 192 → Absorbed bits taken salt v₀ w₀ piece 0 v₀ w₀ (taken % b)
+module _ (mode : Mode) (bits taken : ℕ) (salt v₀ w₀ piece : List ℕ) where
+  pub absorb-none : (b : ℕ) → b ≡ blockSize mode bits → length v₀ ≡ 128 → length w₀ ≡ 224 → Absorbed mode bits taken salt v₀ w₀ piece 0 v₀ w₀ (taken % b)
   absorb-none b size lv lw = record {
     within = omega arith;
     chains = lv;
     waits = lw;
     place = ap₂ (λ (n x : ℕ). n % x) (sym (add-zero taken)) size;
-    leads = ap (λ (n : ℕ). addBytes (made bits salt v₀ n w₀) piece) (add-zero taken);
+    leads = ap (λ (n : ℕ). addBytes (made mode bits salt v₀ n w₀) piece) (add-zero taken);
   }
 
-  module _ (i : ℕ) (v w : List ℕ) (at : ℕ) (A : Absorbed bits taken salt v₀ w₀ piece i v w at) where
+  module _ (i : ℕ) (v w : List ℕ) (at : ℕ) (A : Absorbed mode bits taken salt v₀ w₀ piece i v w at) where
     pub absorb-more : i < length piece → (v′ w′ : List ℕ) (at′ : ℕ) → length v′ ≡ length v → length w′ ≡ length w
-        → at′ ≡ (taken + i + 1) % blockSize bits → made bits salt v′ (taken + i + 1) w′ ≡ addByte (made bits salt v (taken + i) w) (getD piece i 0)
-        → Absorbed bits taken salt v₀ w₀ piece (i + 1) v′ w′ at′
+        → at′ ≡ (taken + i + 1) % blockSize mode bits → made mode bits salt v′ (taken + i + 1) w′ ≡ addByte (made mode bits salt v (taken + i) w) (getD piece i 0)
+        → Absorbed mode bits taken salt v₀ w₀ piece (i + 1) v′ w′ at′
     unfolding addBytes
     absorb-more h v′ w′ at′ lv lw p e = record {
       within = omega arith;
       chains = lv ∙ A .chains;
       waits = lw ∙ A .waits;
-      place = p ∙ ap (λ (n : ℕ). n % blockSize bits) (add-assoc taken i 1);
+      place = p ∙ ap (λ (n : ℕ). n % blockSize mode bits) (add-assoc taken i 1);
       leads =
-          ap (λ (n : ℕ). addBytes (made bits salt v′ n w′) (drop (i + 1) piece)) (sym (add-assoc taken i 1))
+          ap (λ (n : ℕ). addBytes (made mode bits salt v′ n w′) (drop (i + 1) piece)) (sym (add-assoc taken i 1))
           ∙ ap (λ (s : Session). addBytes s (drop (i + 1) piece)) e
-          ∙ sym (ap (addBytes (made bits salt v (taken + i) w)) (drop-cons piece i 0 h ∙ ap (λ (n : ℕ). getD piece i 0 ∷ drop n piece) (sym (add-one i))))
+          ∙ sym (ap (addBytes (made mode bits salt v (taken + i) w)) (drop-cons piece i 0 h ∙ ap (λ (n : ℕ). getD piece i 0 ∷ drop n piece) (sym (add-one i))))
           ∙ A .leads;
     }
 
-    pub absorb-all : length piece ≤ i → made bits salt v (taken + length piece) w ≡ addBytes (made bits salt v₀ taken w₀) piece
+    pub absorb-all : length piece ≤ i → made mode bits salt v (taken + length piece) w ≡ addBytes (made mode bits salt v₀ taken w₀) piece
     unfolding addBytes
     absorb-all h =
         let e : i ≡ length piece = omega (arith, A .within) in
-        ap (λ (n : ℕ). made bits salt v (taken + n) w) (sym e)
-        ∙ sym (ap (addBytes (made bits salt v (taken + i) w)) (ap (λ (n : ℕ). drop n piece) e ∙ drop-length piece))
+        ap (λ (n : ℕ). made mode bits salt v (taken + n) w) (sym e)
+        ∙ sym (ap (addBytes (made mode bits salt v (taken + i) w)) (ap (λ (n : ℕ). drop n piece) e ∙ drop-length piece))
         ∙ A .leads
 
 -- ---- the waiting block compressed, by sizes c and b and a round count n that the code computed
 
-module _ (bits c : ℕ) (p : c ≡ chainingSize bits) where
-  pub lent-counters : (counter n : ℕ) → n ≡ roundCount c → counter ≤ 2 ^ 64 - 161 → counter + 16 * n ≤ 2 ^ 64
-  lent-counters counter n r k = let S = sizes bits in omega (arith, ap roundCount p)
+module _ (mode : Mode) (bits c : ℕ) (p : c ≡ chainingSize mode bits) where
+  pub lent-counters : (counter n : ℕ) → n ≡ roundCount mode c → counter ≤ 2 ^ 64 - 161 → counter + 16 * n ≤ 2 ^ 64
+  lent-counters counter n r k = let S = sizes mode bits in omega (arith, ap (roundCount mode) p)
 
   module _ (v : List ℕ) (lv : length v ≡ 128) where
     pub lent-within : c ≤ length v
-    lent-within = let S = sizes bits in omega arith
+    lent-within = let S = sizes mode bits in omega arith
 
     pub lent-chaining : c ≡ length (take c v)
     lent-chaining = sym (length-take-le c v lent-within)
 
     pub lent-some : 0 < length (take c v)
-    lent-some = let S = sizes bits in omega (arith, lent-chaining)
+    lent-some = let S = sizes mode bits in omega (arith, lent-chaining)
 
     pub lent-parts : 256 ≡ length (take c v) * (256 / length (take c v))
-    lent-parts = subst (λ (x : ℕ). 256 ≡ x * (256 / x)) (sym p ∙ lent-chaining) (sizes bits .parts)
+    lent-parts = subst (λ (x : ℕ). 256 ≡ x * (256 / x)) (sym p ∙ lent-chaining) (sizes mode bits .parts)
 
-    module _ (b : ℕ) (q : b ≡ blockSize bits) (w : List ℕ) (lw : length w ≡ 192) where
+    module _ (b : ℕ) (q : b ≡ blockSize mode bits) (w : List ℕ) (lw : length w ≡ 224) where
       pub lent-block : b ≡ length (take b w)
-      lent-block = let S = sizes bits in sym (length-take-le b w (omega arith))
+      lent-block = let S = sizes mode bits in sym (length-take-le b w (omega arith))
 
       pub lent-square : length (take c v) + length (take b w) ≡ 256
-      lent-square = let S = sizes bits in omega (arith, lent-chaining, lent-block)
+      lent-square = let S = sizes mode bits in omega (arith, lent-chaining, lent-block)
 
-      pub lent-compressed : (counter n : ℕ) → n ≡ roundCount c → (salt last : List ℕ)
+      pub lent-compressed : (counter n : ℕ) → n ≡ roundCount mode c → (salt last : List ℕ)
           → last ≡ compress (length (take c v)) n (keysFrom counter) salt (take c v) (take b w)
-          → last ++ drop c v ≡ compressed bits salt v counter (take (blockSize bits) w)
+          → last ++ drop c v ≡ compressed mode bits salt v counter (take (blockSize mode bits) w)
       lent-compressed counter n r salt last e =
           ap (λ (l : List ℕ). l ++ drop c v)
           (e ∙ ap₂ (λ (x y : ℕ). compress x y (keysFrom counter) salt (take c v) (take b w)) (sym lent-chaining) r)
-          ∙ ap₂ (λ (x y : ℕ). compress x (roundCount x) (keysFrom counter) salt (take x v) (take y w) ++ drop x v) p q
+          ∙ ap₂ (λ (x y : ℕ). compress x (roundCount mode x) (keysFrom counter) salt (take x v) (take y w) ++ drop x v) p q

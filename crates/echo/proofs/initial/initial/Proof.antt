@@ -10,7 +10,7 @@ use Rattle.echo.proofs.initial.initial.Statement.{statement}
 use Rattle.echo.proofs.initial.initial.Tie as tie
 
 abbrev Inv-loop : tie.InvT-loop
-Inv-loop bits c v₀ k₀ v k = (k ≤ c) × (c ≡ chainingSize bits) × Filled 128 (λ j. bits / 256 ^ (j % 16) % 256) (replicate 128 0) k v
+Inv-loop bits c v₀ k₀ v k = (k ≤ c) × Filled 128 (λ j. bits / 256 ^ (j % 16) % 256) (replicate 128 0) k v
 
 abbrev μ-loop : tie.MeasureT-loop
 μ-loop bits c v₀ k₀ v k = c - k
@@ -19,7 +19,7 @@ chaining-size-requires : tie.Need-chaining-size-requires Inv-loop μ-loop
 chaining-size-requires c κs = search needs
 
 loop-holds : tie.Need-loop-holds Inv-loop μ-loop
-loop-holds c = (search needs, c .chaining-size .ensures, fill-none _ _ _ refl)
+loop-holds c = (search needs, fill-none _ _ _ refl)
 
 length-byte-requires : tie.Need-length-byte-requires Inv-loop μ-loop
 length-byte-requires c κs = search
@@ -34,7 +34,7 @@ loop-less : tie.Need-loop-less Inv-loop μ-loop
 loop-less c = search needs
 
 loop-again : tie.Need-loop-again Inv-loop μ-loop
-loop-again c = (search needs, search needs, search (fill-more, in-room))
+loop-again c = (search needs, search (fill-more, in-room))
 
 returns : tie.Need-returns Inv-loop μ-loop
 returns c = search initial-filled

@@ -9,11 +9,11 @@ use Rattle.echo.proofs.waiting.absorb.Statement.{statement}
 use Rattle.echo.proofs.waiting.absorb.Tie as tie
 
 abbrev Inv-loop : tie.InvT-loop
-Inv-loop chaining₀ waiting₀ piece bits taken salt at₀ i₀ i-end chaining waiting at i =
-    (i-end ≡ length piece) × Absorbed bits taken salt chaining₀ waiting₀ piece i chaining waiting at
+Inv-loop chaining₀ waiting₀ piece mode bits taken salt at₀ i₀ i-end chaining waiting at i =
+    (i-end ≡ length piece) × Absorbed mode bits taken salt chaining₀ waiting₀ piece i chaining waiting at
 
 abbrev μ-loop : tie.MeasureT-loop
-μ-loop chaining₀ waiting₀ piece bits taken salt at₀ i₀ i-end chaining waiting at i = i-end - i
+μ-loop chaining₀ waiting₀ piece mode bits taken salt at₀ i₀ i-end chaining waiting at i = i-end - i
 
 block-size-requires : tie.Need-block-size-requires Inv-loop μ-loop
 block-size-requires c κs = search needs

@@ -25,8 +25,8 @@ slice-aggregate-absorb-2 c = search needs
 absorb-requires : tie.Need-absorb-requires
 absorb-requires c κs = (search length-unmapped, (search length-unmapped, search adds))
 
-add-t12 : tie.Need-add-t12
-add-t12 c = search needs
+add-t13 : tie.Need-add-t13
+add-t13 c = search needs
 
 returns-3 : tie.Need-returns-3
 returns-3 c = search added
@@ -42,5 +42,5 @@ add-spec =
     slice-aggregate-absorb
     slice-aggregate-absorb-2
     absorb-requires
-    add-t12
+    add-t13
     returns-3)

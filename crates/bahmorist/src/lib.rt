@@ -1,21 +1,48 @@
 // The library as C and Rust see it: include/bahmorist.h declares these functions. A slice is a pointer and a length there. Each answers as
-// the routine below that it calls, and so its contract is that routine's.
+// the routine of a layer below that it calls, and so its contract is that routine's; those that end in `_in` take a mode as a number, and
+// refuse a number that is no mode's by 6.
+mod modes;
+
 ghost use mathlib.Core.Path.{_≡_};
 ghost use lib.ListN.{length};
+ghost use Rattle.echo.specs.declared.mode.Mode.the-variants.{DoublePipe};
 ghost use Rattle.echo.specs.Routines.{compressLeaves, compressRefusal, roundsBackLeave, roundsLeave, roundsRefusal};
 ghost use Rattle.echo.specs.Session.{digestLeaves, digestRefusal};
 ghost use Rattle.hmac.specs.Routines.{checkAnswer, makeLeaves, makeRefusal};
 ghost use Rattle.steering.specs.Fingerprint.{fingerprintAnswer, fingerprintLeaves};
 ghost use Rattle.steering.specs.Parsing.{parse};
 ghost use Rattle.bahmorist.specs.Answers.{numberOf};
+ghost use Rattle.bahmorist.specs.Modes.{compressInLeaves, compressInRefusal, digestInLeaves, digestInRefusal};
+use echo::Mode;
+use modes::mode_of;
+use modes::no_mode;
 
 // The digest of a message at the front of `out`, and 0; or a refusal by 1, 2, 4 or 5.
 #[no_mangle]
 pub extern "C" fn bahmorist_digest(bits: u64, salt: &[u8], message: &[u8], out: &mut [u8]) -> u8
     ensures refusal { λ r. ⌜ r ≡ digestRefusal bits (length (now (salt .entry))) (length (now (message .entry))) (length (now (out .entry))) ⌝ }
-    ensures left { λ _. ⌜ now (out .exit) ≡ digestLeaves bits (now (salt .entry)) (now (message .entry)) (now (out .entry)) ⌝ }
+    ensures left { λ _. ⌜ now (out .exit) ≡ digestLeaves DoublePipe bits (now (salt .entry)) (now (message .entry)) (now (out .entry)) ⌝ }
 {
-    echo::digest(bits, salt, message, out)
+    echo::digest(Mode::DoublePipe, bits, salt, message, out)
+}
+
+// The same in the mode of a number, and 0; or a refusal by 1, 2, 4, 5 or 6.
+#[no_mangle]
+pub extern "C" fn bahmorist_digest_in(
+    mode: u8,
+    bits: u64,
+    salt: &[u8],
+    message: &[u8],
+    out: &mut [u8],
+) -> u8
+    ensures refusal { λ r. ⌜ r ≡ digestInRefusal mode bits (length (now (salt .entry))) (length (now (message .entry))) (length (now (out .entry))) ⌝ }
+    ensures left { λ _. ⌜ now (out .exit) ≡ digestInLeaves mode bits (now (salt .entry)) (now (message .entry)) (now (out .entry)) ⌝ }
+{
+    if no_mode(mode) {
+        let refusal = echo::digest_refusal(bits, salt.len(), message.len(), out.len());
+        return if refusal == 0 { 6 } else { refusal };
+    }
+    echo::digest(mode_of(mode), bits, salt, message, out)
 }
 
 // The square after 8 or 10 rounds that count on from `counter`, and 0; or a refusal by 2, 6 or 7.
@@ -49,10 +76,28 @@ pub extern "C" fn bahmorist_compress(
     counter: u64,
     salt: &[u8],
 ) -> u8
-    ensures refusal { λ r. ⌜ r ≡ compressRefusal (length (now (chaining .entry))) (length (now (block .entry))) counter (length (now (salt .entry))) ⌝ }
-    ensures left { λ _. ⌜ now (chaining .exit) ≡ compressLeaves (now (chaining .entry)) (now (block .entry)) counter (now (salt .entry)) ⌝ }
+    ensures refusal { λ r. ⌜ r ≡ compressRefusal DoublePipe (length (now (chaining .entry))) (length (now (block .entry))) counter (length (now (salt .entry))) ⌝ }
+    ensures left { λ _. ⌜ now (chaining .exit) ≡ compressLeaves DoublePipe (now (chaining .entry)) (now (block .entry)) counter (now (salt .entry)) ⌝ }
 {
-    echo::compress(chaining, block, counter, salt)
+    echo::compress(Mode::DoublePipe, chaining, block, counter, salt)
+}
+
+// The same in the mode of a number, and 0; or a refusal by 2, 6 or 7.
+#[no_mangle]
+pub extern "C" fn bahmorist_compress_in(
+    mode: u8,
+    chaining: &mut [u8],
+    block: &[u8],
+    counter: u64,
+    salt: &[u8],
+) -> u8
+    ensures refusal { λ r. ⌜ r ≡ compressInRefusal mode (length (now (chaining .entry))) (length (now (block .entry))) counter (length (now (salt .entry))) ⌝ }
+    ensures left { λ _. ⌜ now (chaining .exit) ≡ compressInLeaves mode (now (chaining .entry)) (now (block .entry)) counter (now (salt .entry)) ⌝ }
+{
+    if no_mode(mode) {
+        return if salt.len() == 16 { 6 } else { 2 };
+    }
+    echo::compress(mode_of(mode), chaining, block, counter, salt)
 }
 
 // The fingerprint of a table at the front of `out`, and 0; or a refusal by 2, 5, 8, 9 or 10. `place` is written on every call: the place of

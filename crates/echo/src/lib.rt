@@ -20,6 +20,7 @@ mod waiting;
 pub use compression::compress;
 pub use digest_at_once::digest;
 pub use mode::Mode;
+pub use refusals::digest_refusal;
 pub use run::rounds;
 pub use run::rounds_back;
 pub use run::rounds_by_bytes;

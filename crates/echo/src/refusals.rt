@@ -78,8 +78,8 @@ pub(crate) fn compress_refusal(
     0
 }
 
-// What a digest at once is refused for, 0 for nothing.
-pub(crate) fn digest_refusal(bits: u64, salt: usize, message: usize, room: usize) -> u8
+// What a digest at once is refused for in either mode, 0 for nothing, by the lengths of salt, message and room.
+pub fn digest_refusal(bits: u64, salt: usize, message: usize, room: usize) -> u8
     ensures { λ r. ⌜ r ≡ digestRefusal bits salt message room ⌝ }
 {
     if !admitted(bits) {

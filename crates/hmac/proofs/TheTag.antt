@@ -11,11 +11,10 @@ use native.Mathlib.Omega.{arith}
 use borrow.Author.Tests.{eq-eqb, le-ltb, ltb-false}
 use lib.Dec.{ltb}
 use lib.ListN.{drop, length, length-append}
-use Rattle.echo.specs.Digest.{digestOf}
-use Rattle.echo.specs.Families.{blockSize}
+use Rattle.echo.specs.declared.mode.Mode.the-variants.{DoublePipe}
 use Rattle.echo.specs.Pieces.{joined}
 use Rattle.echo.specs.Session.{addBytes, admitted, isSession, limit, sessionDigest}
-use Rattle.echo.proofs.Laws.Families.{sizes}
+use Rattle.echo.proofs.Laws.Families.{double-block}
 use Rattle.echo.proofs.Laws.Kept.{add-counts, add-is-session, add-keeps}
 use Rattle.echo.proofs.Laws.Pieces.{digest-long, joined-lengths, joined-more, joined-none}
 use Rattle.echo.proofs.Laws.Refusals.{done}
@@ -23,6 +22,7 @@ use Rattle.echo.proofs.Laws.Sessions.{admitted-most}
 use Rattle.hmac.specs.declared.tag_session.Checking.{Checking}
 use Rattle.hmac.specs.declared.tag_session.TagAnswer.{TagAnswer}
 use Rattle.hmac.specs.declared.tag_session.TagSession.{TagSession}
+use Rattle.hmac.specs.DoublePipe.{blockSize, digestOf}
 use Rattle.hmac.specs.Hmac.{keyBlock, tagOf}
 use Rattle.hmac.specs.Routines.{checkAnswer, checkRefusal, makeLeaves, makeRefusal}
 use Rattle.hmac.specs.Same.{same}
@@ -42,8 +42,8 @@ the-key-block-is-a-block h salt key a = by (ltb (blockSize h) (length key)) refl
   where
     by : (t : Bool) → ltb (blockSize h) (length key) ≡ t → length (keyBlock (digestOf h salt) (blockSize h) key) ≡ blockSize h
     by true p =
-        let S = sizes h in
-        rw p (length-with-zeros (blockSize h) (digestOf h salt key) (omega (arith, digest-long h salt a key, admitted-most h salt true (sym a) refl)))
+        let S = double-block h in
+        rw p (length-with-zeros (blockSize h) (digestOf h salt key) (omega (arith, digest-long DoublePipe h salt a key, admitted-most DoublePipe h salt true (sym a) refl)))
     by false p = rw p (length-with-zeros (blockSize h) key (ltb-false (blockSize h) (length key) p))
 
 -- any record, a tag session or none
@@ -150,6 +150,8 @@ pub tag-sessions-exactly : (t : TagSession)
     → (isTagSession t ≡ true)
     ↔ ((isSession (t .inner) ≡ true)
     × (isSession (t .outer) ≡ true)
+    × (t .inner .mode ≡ DoublePipe)
+    × (t .outer .mode ≡ DoublePipe)
     × (t .inner .bits ≡ t .outer .bits)
     × (t .inner .salt ≡ t .outer .salt)
     × (t .outer .taken ≡ blockSize (t .outer .bits))
@@ -159,14 +161,18 @@ tag-sessions-exactly t = (there, back)
     there : isTagSession t ≡ true
         → (isSession (t .inner) ≡ true)
         × (isSession (t .outer) ≡ true)
+        × (t .inner .mode ≡ DoublePipe)
+        × (t .outer .mode ≡ DoublePipe)
         × (t .inner .bits ≡ t .outer .bits)
         × (t .inner .salt ≡ t .outer .salt)
         × (t .outer .taken ≡ blockSize (t .outer .bits))
         × (blockSize (t .outer .bits) ≤ t .inner .taken)
-    there e = let F = tag-fits t e in (F .inner-is, F .outer-is, F .one-length, F .one-salt, F .outer-block, F .inner-more)
+    there e = let F = tag-fits t e in (F .inner-is, F .outer-is, F .inner-mode, F .outer-mode, F .one-length, F .one-salt, F .outer-block, F .inner-more)
 
     back : (isSession (t .inner) ≡ true)
         × (isSession (t .outer) ≡ true)
+        × (t .inner .mode ≡ DoublePipe)
+        × (t .outer .mode ≡ DoublePipe)
         × (t .inner .bits ≡ t .outer .bits)
         × (t .inner .salt ≡ t .outer .salt)
         × (t .outer .taken ≡ blockSize (t .outer .bits))
@@ -174,7 +180,16 @@ tag-sessions-exactly t = (there, back)
         → isTagSession t ≡ true
     back p =
         fits-tag t
-        (record { inner-is = p .0; outer-is = p .1; one-length = p .2; one-salt = p .3; outer-block = p .4; inner-more = p .5 })
+        (record {
+          inner-is = p .0;
+          outer-is = p .1;
+          inner-mode = p .2;
+          outer-mode = p .3;
+          one-length = p .4;
+          one-salt = p .5;
+          outer-block = p .6;
+          inner-more = p .7;
+        })
 
 module _ (t : TagSession) (is : isTagSession t ≡ true) (piece : List ℕ) (fits : t .inner .taken + length piece ≤ limit) where
   F : TagFits t
@@ -188,6 +203,8 @@ module _ (t : TagSession) (is : isTagSession t ≡ true) (piece : List ℕ) (fit
       fits-tag (addTagBytes t piece) (record {
         inner-is = add-is-session (t .inner) piece (F .inner-is) fits;
         outer-is = F .outer-is;
+        inner-mode = K .2 ∙ F .inner-mode;
+        outer-mode = F .outer-mode;
         one-length = K .0 ∙ F .one-length;
         one-salt = K .1 ∙ F .one-salt;
         outer-block = F .outer-block;

@@ -5,11 +5,11 @@ use mathlib.Core.Logic.{_↔_}
 use mathlib.Core.List.{List, [], _∷_, _++_}
 use Prim.Native.Nat.{ℕ, suc, _+_, _/_, _≤_}
 use lib.ListN.{drop, length}
-use Rattle.echo.specs.Digest.{digestOf}
-use Rattle.echo.specs.Families.{blockSize}
+use Rattle.echo.specs.declared.mode.Mode.the-variants.{DoublePipe}
 use Rattle.echo.specs.Pieces.{joined}
 use Rattle.echo.specs.Session.{addBytes, admitted, isSession, limit, sessionDigest}
 use Rattle.hmac.specs.declared.tag_session.TagSession.{TagSession}
+use Rattle.hmac.specs.DoublePipe.{blockSize, digestOf}
 use Rattle.hmac.specs.Hmac.{keyBlock, tagOf}
 use Rattle.hmac.specs.Routines.{checkAnswer, checkRefusal, makeLeaves, makeRefusal}
 use Rattle.hmac.specs.TagPieces.{addAllTag}
@@ -146,6 +146,8 @@ pub tag-sessions-exactly : (t : TagSession)
     → (isTagSession t ≡ true)
     ↔ ((isSession (t .inner) ≡ true)
     × (isSession (t .outer) ≡ true)
+    × (t .inner .mode ≡ DoublePipe)
+    × (t .outer .mode ≡ DoublePipe)
     × (t .inner .bits ≡ t .outer .bits)
     × (t .inner .salt ≡ t .outer .salt)
     × (t .outer .taken ≡ blockSize (t .outer .bits))

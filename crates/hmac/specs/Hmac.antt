@@ -4,8 +4,8 @@ use Prim.Native.Nat.{ℕ, _-_}
 use lib.Dec.{ltb}
 use lib.ListN.{length, replicate}
 use Rattle.aes_round.specs.Bytes.{xorBytes}
-use Rattle.echo.specs.Digest.{digestOf}
-use Rattle.echo.specs.Families.{blockSize, either}
+use Rattle.echo.specs.Families.{either}
+use Rattle.hmac.specs.DoublePipe.{blockSize, digestOf}
 
 -- zeros appended to the end, up to B bytes
 unfoldable pub withZeros : ℕ → List ℕ → List ℕ
@@ -26,6 +26,6 @@ opad B = replicate B 0x5c
 unfoldable pub mac : (List ℕ → List ℕ) → ℕ → List ℕ → List ℕ → List ℕ
 mac H B K text = H (xorBytes B (keyBlock H B K) (opad B) ++ H (xorBytes B (keyBlock H B K) (ipad B) ++ text))
 
--- over ECHO: H is the digest of h bits under a salt, and B the block size of its family
+-- over ECHO in double-pipe: H is the digest of h bits under a salt, and B the block size of its family
 unfoldable pub tagOf : ℕ → List ℕ → List ℕ → List ℕ → List ℕ
 tagOf h salt key text = mac (digestOf h salt) (blockSize h) key text

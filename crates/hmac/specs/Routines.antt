@@ -4,10 +4,10 @@ use mathlib.Core.List.{List, [], _∷_, _++_}
 use Prim.Native.Nat.{ℕ, _+_, _/_}
 use lib.Dec.{ltb}
 use lib.ListN.{drop, length}
-use Rattle.echo.specs.Families.{blockSize}
 use Rattle.echo.specs.Refusals.{_when_, firstOf, noSalt, unless}
 use Rattle.echo.specs.Session.{admitted, limit}
 use Rattle.hmac.specs.declared.at_once.Verdict.{Verdict}
+use Rattle.hmac.specs.DoublePipe.{blockSize}
 use Rattle.hmac.specs.Hmac.{tagOf}
 use Rattle.hmac.specs.Same.{same}
 

@@ -6,25 +6,26 @@ use lib.Dec.{eqb, leb, ltb}
 use lib.ListN.{drop, length}
 use Rattle.aes_round.specs.Bytes.{xorBytes}
 use Rattle.echo.specs.declared.session.Session.{Session}
-use Rattle.echo.specs.Digest.{digestOf}
-use Rattle.echo.specs.Families.{blockSize}
 use Rattle.echo.specs.Refusals.{_when_, firstOf, noSalt, unless}
-use Rattle.echo.specs.Session.{addBytes, admitted, blank, isSession, limit, opened, sessionDigest}
+use Rattle.echo.specs.Session.{addBytes, admitted, blank, isSession, limit, sessionDigest}
 use Rattle.hmac.specs.declared.tag_session.Checking.{Checking}
 use Rattle.hmac.specs.declared.tag_session.TagAnswer.{TagAnswer}
 use Rattle.hmac.specs.declared.tag_session.TagSession.{TagSession}
+use Rattle.hmac.specs.DoublePipe.{blockSize, digestOf, isDoublePipe, opened}
 use Rattle.hmac.specs.Hmac.{ipad, keyBlock, opad}
 use Rattle.hmac.specs.Same.{same}
 
--- two digest sessions of one h and salt, the outer with n of one block, the inner with at least that
+-- two digest sessions in double-pipe of one h and salt, the outer with n of one block, the inner with at least that
 unfoldable pub isTagSession : TagSession → Bool
 isTagSession t =
     isSession (t .inner)
     && (isSession (t .outer)
+    && (isDoublePipe (t .inner .mode)
+    && (isDoublePipe (t .outer .mode)
     && (eqb (t .inner .bits) (t .outer .bits)
     && (same (t .inner .salt) (t .outer .salt)
     && (eqb (t .outer .taken) (blockSize (t .outer .bits))
-    && leb (blockSize (t .outer .bits)) (t .inner .taken)))))
+    && leb (blockSize (t .outer .bits)) (t .inner .taken)))))))
 
 -- ---- opening
 

@@ -4,10 +4,11 @@ ghost use mathlib.Core.Path.{_≡_};
 ghost use lib.Dec.{ltb};
 ghost use lib.ListN.{length, replicate, take};
 ghost use Rattle.aes_round.specs.Bytes.{xorBytes};
-ghost use Rattle.echo.specs.Digest.{digestOf};
-ghost use Rattle.echo.specs.Families.{blockSize, either};
+ghost use Rattle.echo.specs.Families.{either};
 ghost use Rattle.echo.specs.Session.{addBytes, admitted, isSession, limit};
+ghost use Rattle.hmac.specs.DoublePipe.{blockSize, digestOf};
 ghost use Rattle.hmac.specs.Hmac.{keyBlock};
+use echo::Mode;
 use echo::Session;
 
 // A refusal number, 0 for none, and K0 at the front of room for either family's block.
@@ -16,7 +17,7 @@ pub(crate) struct KeyBlock {
     pub bytes: [u8; 192],
 }
 
-// The block size of a digest length's family.
+// The block size of a digest length in double-pipe.
 pub(crate) fn block_size(bits: u64) -> usize
     ensures { λ r. ⌜ r ≡ blockSize bits ⌝ }
 {
@@ -33,7 +34,7 @@ pub(crate) fn key_block(bits: u64, salt: &[u8], key: &[u8]) -> KeyBlock
     let n = key.len();
     let mut block = [0u8; 192];
     if block_size(bits) < n {
-        let refusal = echo::digest(bits, salt, key, &mut block);
+        let refusal = echo::digest(Mode::DoublePipe, bits, salt, key, &mut block);
         return KeyBlock {
             refusal: refusal,
             bytes: block,

@@ -1,5 +1,6 @@
 // HMAC by FIPS 198-1 over ECHO digests: tags of messages, at once or over a session.
 mod at_once;
+mod double_pipe;
 mod key_block;
 mod same;
 mod tag_session;

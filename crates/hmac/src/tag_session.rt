@@ -3,10 +3,12 @@ ghost use mathlib.Core.Bool.{true};
 ghost use mathlib.Core.Path.{_≡_};
 ghost use lib.ListN.{length};
 ghost use Rattle.hmac.specs.TagSession.{addTagAnswer, checkTagAnswer, closedBy, isTagSession, openTagAnswer, readTagAnswer, readTagLeaves, refusedTag};
+use super::double_pipe::is_double_pipe;
 use super::key_block::block_size;
 use super::key_block::key_block;
 use super::key_block::keyed;
 use super::same::same;
+use echo::Mode;
 use echo::Session;
 
 // A tag that is under way. It is passed by value, and each call hands it back. It is worth as much as its key: whoever reads it can make tags.
@@ -36,7 +38,7 @@ impl TagSession {
     fn refused(number: u8) -> TagAnswer
         ensures { λ r. ⌜ r ≡ refusedTag number ⌝ }
     {
-        let opening = Session::open(0, b"");
+        let opening = Session::open(Mode::DoublePipe, 0, b"");
         let none = opening.session;
         TagAnswer {
             refusal: number,
@@ -52,7 +54,7 @@ impl TagSession {
     pub fn open(bits: u64, salt: &[u8], key: &[u8]) -> TagAnswer
         ensures { λ r. ⌜ r ≡ openTagAnswer bits (now (salt .entry)) (now (key .entry)) ⌝ }
     {
-        let opening = Session::open(bits, salt);
+        let opening = Session::open(Mode::DoublePipe, bits, salt);
         let not_opened = opening.refusal;
         if not_opened != 0 {
             return TagSession::refused(not_opened);
@@ -82,6 +84,16 @@ impl TagSession {
             return false;
         }
         if !self.outer.is_session() {
+            return false;
+        }
+        let inner = self.inner;
+        let inner_mode = inner.mode;
+        if !is_double_pipe(inner_mode) {
+            return false;
+        }
+        let outer = self.outer;
+        let outer_mode = outer.mode;
+        if !is_double_pipe(outer_mode) {
             return false;
         }
         if self.inner.bits != self.outer.bits {

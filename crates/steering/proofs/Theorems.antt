@@ -5,6 +5,7 @@ use mathlib.Core.List.{List, _∷_, _++_}
 use Prim.Native.Nat.{ℕ, suc, _+_, _-_, _<_, _≤_}
 use native.Mathlib.Omega.{arith}
 use lib.ListN.{drop, getD, length, take}
+use Rattle.echo.specs.declared.mode.Mode.the-variants.{DoublePipe}
 use Rattle.echo.specs.Digest.{digestOf}
 use Rattle.echo.specs.Session.{digestLeaves, digestRefusal}
 use Rattle.steering.specs.Fingerprint.{fingerprintAnswer, fingerprintLeaves, message}
@@ -82,14 +83,14 @@ pub an-accepted-table-is-digested : (salt t room : List ℕ) (rs : List Record)
     → 32 ≤ length room
     → parse t ≡ accepted rs
     → (fingerprintAnswer (length salt) (length room) (parse t) ≡ record { refusal = 0; place = 0 })
-    × (fingerprintLeaves salt t room ≡ digestOf 256 salt (message t) ++ drop 32 room)
+    × (fingerprintLeaves salt t room ≡ digestOf DoublePipe 256 salt (message t) ++ drop 32 room)
 an-accepted-table-is-digested = fingerprints.digested
 
 -- the digest layer accepts each message that is handed to it, and leaves in the room what the fingerprint leaves there
 pub the-digest-layer-takes-each-message : (salt t room : List ℕ)
     → fingerprintAnswer (length salt) (length room) (parse t) .refusal ≡ 0
     → (digestRefusal 256 (length salt) (length (message t)) (length room) ≡ 0)
-    × (digestLeaves 256 salt (message t) room ≡ fingerprintLeaves salt t room)
+    × (digestLeaves DoublePipe 256 salt (message t) room ≡ fingerprintLeaves salt t room)
 the-digest-layer-takes-each-message = fingerprints.takes
 
 -- a refusal, whose number is k + 1, leaves the room

@@ -1,8 +1,9 @@
--- The fingerprint of a table: the 256-bit digest of the whole table. Assumes nothing.
+-- The fingerprint of a table: the 256-bit digest, in double-pipe, of the whole table. Assumes nothing.
 use mathlib.Core.List.{List, _++_}
 use Prim.Native.Nat.{ℕ}
 use lib.Dec.{eqb, ltb}
 use lib.ListN.{drop, length}
+use Rattle.echo.specs.declared.mode.Mode.the-variants.{DoublePipe}
 use Rattle.echo.specs.Digest.{digestOf}
 use Rattle.steering.specs.Numbers.{either}
 use Rattle.steering.specs.Parsing.{Parsed, accepted, parse, refused}
@@ -30,4 +31,4 @@ fingerprintAnswer saltLength room parsed =
 -- the digest and the bytes behind it, or the room as it was
 unfoldable pub fingerprintLeaves : List ℕ → List ℕ → List ℕ → List ℕ
 fingerprintLeaves salt table room =
-    either (eqb (fingerprintAnswer (length salt) (length room) (parse table) .refusal) 0) (digestOf 256 salt (message table) ++ drop 32 room) room
+    either (eqb (fingerprintAnswer (length salt) (length room) (parse table) .refusal) 0) (digestOf DoublePipe 256 salt (message table) ++ drop 32 room) room

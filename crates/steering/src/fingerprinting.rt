@@ -4,6 +4,7 @@ ghost use lib.ListN.{length};
 ghost use Rattle.steering.specs.Fingerprint.{fingerprintAnswer, fingerprintLeaves};
 ghost use Rattle.steering.specs.Parsing.{parse};
 use super::counting::count;
+use echo::Mode;
 
 // A refusal number, 0 for none, and its place.
 pub struct Fingerprinted {
@@ -34,7 +35,7 @@ fn refusal_of(salt: usize, room: usize, table: &[u8]) -> Fingerprinted
     }
 }
 
-// Puts the 256-bit digest of the whole table, which is read where it lies, at the front of `out`, whose bytes behind it stay; or refuses by
+// Puts the 256-bit digest, in double-pipe, of the whole table, which is read where it lies, at the front of `out`, whose bytes behind it stay; or refuses by
 // 2, 5, 8, 9 or 10 and writes nothing. The digest layer takes each table that gets that far (`the-digest-layer-takes-each-message`), so its
 // number, which is 0, is not looked at.
 pub fn fingerprint(salt: &[u8], table: &[u8], out: &mut [u8]) -> Fingerprinted
@@ -46,6 +47,6 @@ pub fn fingerprint(salt: &[u8], table: &[u8], out: &mut [u8]) -> Fingerprinted
     if refused != 0 {
         return answer;
     }
-    echo::digest(256, salt, table, out);
+    echo::digest(Mode::DoublePipe, 256, salt, table, out);
     answer
 }

@@ -1,4 +1,4 @@
--- What adding keeps, whatever the session: h, the salt, and that it is one. Assumes nothing.
+-- What adding keeps, whatever the session: h, the salt, the mode, and that it is one. Assumes nothing.
 use mathlib.Core.Path.{_≡_, refl, sym, _∙_}
 use mathlib.Core.Bool.{true}
 use mathlib.Core.Logic.{⊎-elim}
@@ -52,8 +52,10 @@ module _ (s : Session) (x : ℕ) where
       (λ (l : suc (s .taken % b) < b). let m : s .taken % b + 1 < b = omega arith in rw (more-is m) (more m))
       (eq-or-lt-of-le (mod-lt (s .taken) (block-pos (s .mode) (s .bits))))
 
-  byte-keeps : (addByte s x .bits ≡ s .bits) × (addByte s x .salt ≡ s .salt) × (addByte s x .taken ≡ s .taken + 1)
-  byte-keeps = either-way (λ r. (r .bits ≡ s .bits) × (r .salt ≡ s .salt) × (r .taken ≡ s .taken + 1)) (λ e. (refl, refl, refl)) (λ l. (refl, refl, refl))
+  byte-keeps : (addByte s x .bits ≡ s .bits) × (addByte s x .salt ≡ s .salt) × (addByte s x .mode ≡ s .mode) × (addByte s x .taken ≡ s .taken + 1)
+  byte-keeps =
+      either-way (λ r. (r .bits ≡ s .bits) × (r .salt ≡ s .salt) × (r .mode ≡ s .mode) × (r .taken ≡ s .taken + 1))
+      (λ e. (refl, refl, refl, refl)) (λ l. (refl, refl, refl, refl))
 
   stays : isSession s ≡ true → s .taken + 1 ≤ limit → isSession (addByte s x) ≡ true
   stays is few = either-way (λ r. isSession r ≡ true) full more
@@ -86,18 +88,18 @@ module _ (s : Session) (x : ℕ) where
 
 -- ---- a piece
 
-pub add-keeps : (s : Session) (xs : List ℕ) → (addBytes s xs .bits ≡ s .bits) × (addBytes s xs .salt ≡ s .salt)
+pub add-keeps : (s : Session) (xs : List ℕ) → (addBytes s xs .bits ≡ s .bits) × (addBytes s xs .salt ≡ s .salt) × (addBytes s xs .mode ≡ s .mode)
 unfolding addBytes
-add-keeps s [] = (refl, refl)
-add-keeps s (x ∷ xs) = let K = add-keeps (addByte s x) xs in let B = byte-keeps s x in (K .0 ∙ B .0, K .1 ∙ B .1)
+add-keeps s [] = (refl, refl, refl)
+add-keeps s (x ∷ xs) = let K = add-keeps (addByte s x) xs in let B = byte-keeps s x in (K .0 ∙ B .0, K .1 ∙ B .1, K .2 ∙ B .2)
 
 pub add-counts : (s : Session) (xs : List ℕ) → addBytes s xs .taken ≡ s .taken + length xs
 unfolding addBytes
 add-counts s [] = omega arith
-add-counts s (x ∷ xs) = omega (arith, add-counts (addByte s x) xs, byte-keeps s x .2)
+add-counts s (x ∷ xs) = omega (arith, add-counts (addByte s x) xs, byte-keeps s x .3)
 
 pub add-is-session : (s : Session) (xs : List ℕ) → isSession s ≡ true → s .taken + length xs ≤ limit → isSession (addBytes s xs) ≡ true
 unfolding addBytes
 add-is-session s [] is few = is
 add-is-session s (x ∷ xs) is few =
-    add-is-session (addByte s x) xs (stays s x is (omega arith)) (omega (arith, byte-keeps s x .2))
+    add-is-session (addByte s x) xs (stays s x is (omega arith)) (omega (arith, byte-keeps s x .3))

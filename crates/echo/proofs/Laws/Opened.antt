@@ -58,6 +58,9 @@ module _ (mode : Mode) (h : ℕ) (salt : List ℕ) where
   pub opened-bits : (m : List ℕ) → addBytes (opened mode h salt) m .bits ≡ h
   opened-bits m = add-keeps (opened mode h salt) m .0
 
+  pub opened-mode : (m : List ℕ) → addBytes (opened mode h salt) m .mode ≡ mode
+  opened-mode m = add-keeps (opened mode h salt) m .2
+
   pub opened-is-session : (m : List ℕ) → admitted h ≡ true → length m ≤ limit → isSession (addBytes (opened mode h salt) m) ≡ true
   unfolding unused
   opened-is-session m a l =

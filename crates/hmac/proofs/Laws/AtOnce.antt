@@ -8,16 +8,16 @@ use native.Mathlib.Omega.{arith}
 use borrow.Author.Tests.{eq-eqb, eqb-true, le-ltb, ltb-false}
 use lib.Dec.{eqb, ltb}
 use lib.ListN.{drop, length}
-use Rattle.echo.specs.Families.{blockSize}
 use Rattle.echo.specs.Refusals.{Refusal, _when_, firstOf, noSalt, unless}
 use Rattle.echo.specs.Session.{admitted, limit}
-use Rattle.echo.proofs.Laws.Families.{sizes}
+use Rattle.echo.proofs.Laws.Families.{double-block}
 use Rattle.echo.proofs.Laws.Opened.{add-nothing}
 use Rattle.echo.proofs.Laws.Refusals.{refused}
 use Rattle.hmac.specs.declared.at_once.Verdict.{Verdict}
 use Rattle.hmac.specs.declared.tag_session.Checking.{Checking}
 use Rattle.hmac.specs.declared.tag_session.TagAnswer.{TagAnswer}
 use Rattle.hmac.specs.declared.tag_session.TagSession.{TagSession}
+use Rattle.hmac.specs.DoublePipe.{blockSize}
 use Rattle.hmac.specs.Hmac.{tagOf}
 use Rattle.hmac.specs.Routines.{checkAnswer, checkRefusal, makeLeaves, makeRefusal, tooLong}
 use Rattle.hmac.specs.Same.{same}
@@ -74,7 +74,7 @@ module _ (h : ℕ) (salt key message : List ℕ) where
         added-number : (long : Bool) → ltb limit (blockSize h + length message) ≡ long → y .refusal ≡ firstOf ((4 when long) ∷ [])
         unfolding addTagAnswer addTagRefusal
         added-number long p =
-            let S = sizes h in
+            let S = double-block h in
             rw (d, opened-is, holds-session h salt key (passed .0) [] (omega arith), holds-count h salt key [], add-zero (blockSize h), p)
 
         -- the message is refused, and so is the call

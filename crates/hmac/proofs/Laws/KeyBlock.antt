@@ -14,18 +14,19 @@ use Rattle.aes_round.specs.Bytes.{xor, xorBytes}
 use Rattle.aes_round.proofs.Laws.Bytes.{same-list}
 use Rattle.aes_round.proofs.Laws.Fill.{Filled, fill-more}
 use Rattle.aes_round.proofs.Laws.Xor.{code-xor, getD-xor, length-xor}
+use Rattle.echo.specs.declared.mode.Mode.the-variants.{DoublePipe}
 use Rattle.echo.specs.declared.session.Answer.{Answer}
 use Rattle.echo.specs.declared.session.Session.{Session}
-use Rattle.echo.specs.Digest.{digestOf}
-use Rattle.echo.specs.Families.{blockSize, either}
+use Rattle.echo.specs.Families.{either}
 use Rattle.echo.specs.Placed.{Placed}
 use Rattle.echo.specs.Session.{addAnswer, addBytes, admitted, digestLeaves, digestRefusal, isSession, limit}
-use Rattle.echo.proofs.Laws.Families.{sizes}
+use Rattle.echo.proofs.Laws.Families.{double-block}
 use Rattle.echo.proofs.Laws.Pieces.{digest-long}
 use Rattle.echo.proofs.Laws.Placed.{placed-front}
 use Rattle.echo.proofs.Laws.Refusals.{digest-4, digestible}
 use Rattle.echo.proofs.Laws.Sessions.{added, admitted-most}
 use Rattle.echo.proofs.Theorems.{at-once-is-the-digest}
+use Rattle.hmac.specs.DoublePipe.{blockSize, digestOf}
 use Rattle.hmac.specs.Hmac.{keyBlock, withZeros}
 
 -- ---- zeros
@@ -64,7 +65,7 @@ fewer-zeros n m s l few =
 
 module _ (h : ℕ) (salt key : List ℕ) (a : admitted h ≡ true) (l : length salt ≡ 16) (b : ℕ) (size : b ≡ blockSize h) where
   most : h ≤ 512
-  most = admitted-most h salt true (sym a) refl
+  most = admitted-most DoublePipe h salt true (sym a) refl
 
   -- the key is digested
   module _ (r : ℕ) (e : r ≡ digestRefusal h (length salt) (length key) 192) where
@@ -76,19 +77,19 @@ module _ (h : ℕ) (salt key : List ℕ) (a : admitted h ≡ true) (l : length s
         by false p =
             e
             ∙ ap (digestRefusal h (length salt) (length key)) (sym (zeros-long 192))
-            ∙ at-once-is-the-digest h salt key (zeros 192) a l (ltb-false limit (length key) p) (omega (arith, most, zeros-long 192)) .0
+            ∙ at-once-is-the-digest DoublePipe h salt key (zeros 192) a l (ltb-false limit (length key) p) (omega (arith, most, zeros-long 192)) .0
 
-    pub digested-block : b < length key → (u : List ℕ) → u ≡ digestLeaves h salt key (replicate 192 0) → r ≡ 0
+    pub digested-block : b < length key → (u : List ℕ) → u ≡ digestLeaves DoublePipe h salt key (replicate 192 0) → r ≡ 0
         → take (blockSize h) u ≡ keyBlock (digestOf h salt) (blockSize h) key
     unfolding keyBlock zeros
     digested-block long u d none =
         let D = digestible h (length salt) (length key) 192 (sym e ∙ none) in
-        let S = sizes h in
-        let n = digest-long h salt a key in
+        let S = double-block h in
+        let n = digest-long DoublePipe h salt a key in
         rw (lt-ltb (blockSize h) (length key) (omega (arith, size)))
         (ap (take (blockSize h))
         (d
-        ∙ at-once-is-the-digest h salt key (zeros 192) a l (D .message-fits) (D .room-fits) .1
+        ∙ at-once-is-the-digest DoublePipe h salt key (zeros 192) a l (D .message-fits) (D .room-fits) .1
         ∙ ap (λ (k : ℕ). digestOf h salt key ++ drop k (zeros 192)) (sym n)
         ∙ in-front 192 (digestOf h salt key) (omega (arith, n, most)))
         ∙ fewer-zeros (blockSize h) 192 (digestOf h salt key) (omega (arith, n, most)) (S .block-most))
@@ -96,13 +97,13 @@ module _ (h : ℕ) (salt key : List ℕ) (a : admitted h ≡ true) (l : length s
   -- the key is copied
   module _ (short : length key ≤ b) where
     pub copied-number : _≡_ {A = ℕ} 0 (either (ltb limit (length key)) 4 0)
-    copied-number = let S = sizes h in rw (le-ltb limit (length key) (omega arith))
+    copied-number = let S = double-block h in rw (le-ltb limit (length key) (omega arith))
 
     pub copied-block : (n i : ℕ) (u : List ℕ) → Filled 192 (λ k. getD key k 0) (replicate 192 0) i u → n ≡ length key → i ≤ n → n ≤ i
         → take (blockSize h) u ≡ keyBlock (digestOf h salt) (blockSize h) key
     unfolding keyBlock zeros
     copied-block n i u F e before behind =
-        let S = sizes h in
+        let S = double-block h in
         rw (le-ltb (blockSize h) (length key) (omega arith))
         (ap (take (blockSize h))
         (placed-front (zeros 192) key u (length key) refl (omega (arith, zeros-long 192)) P ∙ in-front 192 key (omega arith))
@@ -118,7 +119,7 @@ module _ (h : ℕ) (salt key : List ℕ) (a : admitted h ≡ true) (l : length s
 
 -- the bounds of the loops, and one byte of the key more
 pub size-within : (h b : ℕ) → b ≡ blockSize h → b ≤ 192
-size-within h b size = let S = sizes h in omega arith
+size-within h b size = let S = double-block h in omega arith
 
 pub key-within : (h b n : ℕ) → b ≡ blockSize h → n ≤ b → n ≤ 192
 key-within h b n size few = omega (arith, size-within h b size)
@@ -139,7 +140,7 @@ front-count n b i f room u F few = sym (length-take-le b u (omega (arith, F .lon
 
 module _ (h b i pad : ℕ) (block room padded : List ℕ) (F : Filled 192 (λ k. xor (getD block k 0) pad) room i padded) (size : b ≡ blockSize h) where
   padded-count : b ≡ length (take b padded)
-  padded-count = let S = sizes h in front-count 192 b i _ room padded F (omega arith)
+  padded-count = let S = double-block h in front-count 192 b i _ room padded F (omega arith)
 
   module _ (least : b ≤ i) where
     padded-front : take b padded ≡ xorBytes (blockSize h) (take (blockSize h) block) (replicate (blockSize h) pad)
@@ -155,7 +156,7 @@ module _ (h b i pad : ℕ) (block room padded : List ℕ) (F : Filled 192 (λ k.
         → (adding : Answer) → adding ≡ addAnswer fresh (take b padded)
         → adding .session ≡ addBytes fresh (xorBytes (blockSize h) (take (blockSize h) block) (replicate (blockSize h) pad))
     keyed-session fresh bits is none adding d =
-        let S = sizes h in
+        let S = double-block h in
         ap (λ (x : Answer). x .session)
         (d ∙ sym (added fresh (take b padded) true (sym is) refl _ refl (omega (arith, padded-count))))
         ∙ ap (addBytes fresh) padded-front

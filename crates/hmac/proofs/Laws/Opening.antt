@@ -8,16 +8,17 @@ use borrow.Author.Tests.{eq-eqb, eqb-true}
 use lib.Dec.{eqb, ltb}
 use lib.ListN.{length, replicate, take}
 use Rattle.aes_round.specs.Bytes.{xorBytes}
+use Rattle.echo.specs.declared.mode.Mode.the-variants.{DoublePipe}
 use Rattle.echo.specs.declared.session.Answer.{Answer}
 use Rattle.echo.specs.declared.session.Session.{Session}
-use Rattle.echo.specs.Digest.{digestOf}
-use Rattle.echo.specs.Families.{blockSize, either}
+use Rattle.echo.specs.Families.{either}
 use Rattle.echo.specs.Refusals.{_when_, firstOf}
-use Rattle.echo.specs.Session.{addBytes, admitted, isSession, limit, openAnswer, opened}
+use Rattle.echo.specs.Session.{addBytes, admitted, isSession, limit, openAnswer}
 use Rattle.echo.proofs.Laws.Opened.{add-nothing, opened-is-session}
 use Rattle.echo.proofs.Laws.Pieces.{no-digest-of-0-bits, opening-number, opens}
 use Rattle.hmac.specs.declared.key_block.KeyBlock.{KeyBlock}
 use Rattle.hmac.specs.declared.tag_session.TagAnswer.{TagAnswer}
+use Rattle.hmac.specs.DoublePipe.{blockSize, digestOf, opened}
 use Rattle.hmac.specs.Hmac.{keyBlock}
 use Rattle.hmac.specs.TagSession.{keyedBy, openTagAnswer, openTagRefusal, openedTag, refusedTag}
 
@@ -25,16 +26,16 @@ use Rattle.hmac.specs.TagSession.{keyedBy, openTagAnswer, openTagRefusal
 abbrev begunWith : Session → List ℕ → ℕ → Session
 begunWith f bytes pad = let b = blockSize (f .bits) in addBytes f (xorBytes b (take b bytes) (replicate b pad))
 
-pub refused-is : (number : ℕ) (salt : List ℕ) (x : Answer) → x ≡ openAnswer 0 salt
+pub refused-is : (number : ℕ) (salt : List ℕ) (x : Answer) → x ≡ openAnswer DoublePipe 0 salt
     → _≡_ {A = TagAnswer} (record { refusal = number; session = record { inner = x .session; outer = x .session } }) (refusedTag number)
 refused-is number salt x e =
-    let none = ap (λ (y : Answer). y .session) e ∙ no-digest-of-0-bits salt in
+    let none = ap (λ (y : Answer). y .session) e ∙ no-digest-of-0-bits DoublePipe salt in
     ap (λ (s : Session). record { refusal = number; session = record { inner = s; outer = s } }) none
 
-module _ (h : ℕ) (salt key : List ℕ) (x : Answer) (e : x ≡ openAnswer h salt) where
+module _ (h : ℕ) (salt key : List ℕ) (x : Answer) (e : x ≡ openAnswer DoublePipe h salt) where
   number : (a s : Bool) → admitted h ≡ a → eqb (length salt) 16 ≡ s → x .refusal ≡ firstOf ((1 when not a) ∷ (2 when not s) ∷ [])
   number a s p q =
-      ap (λ (y : Answer). y .refusal) e ∙ opening-number h salt ∙ ap₂ (λ (b c : Bool). firstOf ((1 when not b) ∷ (2 when not c) ∷ [])) p q
+      ap (λ (y : Answer). y .refusal) e ∙ opening-number DoublePipe h salt ∙ ap₂ (λ (b c : Bool). firstOf ((1 when not b) ∷ (2 when not c) ∷ [])) p q
 
   -- the digest layer refused the opening
   pub opened-none : (x .refusal ≡ 0 → ⊥) → (r : TagAnswer) → r ≡ refusedTag (x .refusal) → r ≡ openTagAnswer h salt key
@@ -64,11 +65,11 @@ module _ (h : ℕ) (salt key : List ℕ) (x : Answer) (e : x ≡ openAnswer h sa
     salt-passes = passed .1
 
     fresh : x .session ≡ opened h salt
-    fresh = ap (λ (y : Answer). y .session) (e ∙ opens h salt bits-pass salt-passes)
+    fresh = ap (λ (y : Answer). y .session) (e ∙ opens DoublePipe h salt bits-pass salt-passes)
 
     pub fresh-is-session : isSession (x .session) ≡ true
     fresh-is-session =
-        ap isSession (fresh ∙ sym (add-nothing (opened h salt))) ∙ opened-is-session h salt [] bits-pass (omega arith)
+        ap isSession (fresh ∙ sym (add-nothing (opened h salt))) ∙ opened-is-session DoublePipe h salt [] bits-pass (omega arith)
 
     pub fresh-is-empty : x .session .taken ≡ 0
     fresh-is-empty = ap (λ (s : Session). s .taken) fresh

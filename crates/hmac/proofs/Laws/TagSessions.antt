@@ -1,6 +1,6 @@
 -- Laws of the tag session's definitions, over plain records. Assumes nothing.
 use mathlib.Core.Path.{_≡_, refl, sym, ap, ap₂, _∙_}
-use mathlib.Core.Bool.{Bool, true, false, not}
+use mathlib.Core.Bool.{Bool, true, false, not, _&&_, true≢false}
 use mathlib.Core.List.{List, _++_}
 use Prim.Native.Nat.{ℕ, _+_, _/_, _≤_}
 use native.Mathlib.Omega.{arith}
@@ -8,23 +8,25 @@ use borrow.Author.Tests.{eq-eqb, eqb-true, le-leb, leb-true, ltb-false, ltb-true
 use lib.Dec.{eqb, leb, ltb}
 use lib.ListN.{drop, length, replicate, take}
 use lib.Seq.{length-take-le, take-at}
+use Rattle.echo.specs.declared.mode.Mode.{Mode}
+use Rattle.echo.specs.declared.mode.Mode.the-variants.{DoublePipe, SinglePipe}
 use Rattle.echo.specs.declared.session.Answer.{Answer}
 use Rattle.echo.specs.declared.session.Session.{Session}
-use Rattle.echo.specs.Families.{blockSize}
 use Rattle.echo.specs.Session.{addAnswer, isSession, limit, readAnswer, readLeaves, sessionDigest}
 use Rattle.echo.proofs.Laws.Continued.{session-digest-long}
-use Rattle.echo.proofs.Laws.Families.{sizes}
+use Rattle.echo.proofs.Laws.Families.{double-block}
 use Rattle.echo.proofs.Laws.Kept.{add-is-session, add-keeps}
 use Rattle.echo.proofs.Laws.Sessions.{added, added-much, bits-most, both, left-0, left-5, read-0, read-5, taken-most}
 use Rattle.hmac.specs.declared.tag_session.Checking.{Checking}
 use Rattle.hmac.specs.declared.tag_session.TagAnswer.{TagAnswer}
 use Rattle.hmac.specs.declared.tag_session.TagSession.{TagSession}
+use Rattle.hmac.specs.DoublePipe.{blockSize, isDoublePipe}
 use Rattle.hmac.specs.Same.{same}
 use Rattle.hmac.specs.TagSession.{addTagAnswer, addTagBytes, addTagRefusal, checkTagAnswer, checkTagRefusal, closedBy, isTagSession}
 use Rattle.hmac.specs.TagSession.{readTagAnswer, readTagLeaves, readTagRefusal, sessionTag}
 use Rattle.hmac.proofs.Laws.Same.{same-equal, same-self}
 
--- ---- which records are tag sessions: the answers of is_session, by the tests i, o and s that the code made
+-- ---- which records are tag sessions: the answers of is_session, by the tests i, o, m, d and s that the code made
 
 module _ (t : TagSession) (i : Bool) (ei : i ≡ isSession (t .inner)) where
   pub no-inner : not i ≡ true → false ≡ isTagSession t
@@ -36,30 +38,54 @@ module _ (t : TagSession) (i : Bool) (ei : i ≡ isSession (t .inner)) where
     unfolding isTagSession
     no-outer fails = rw (← ei, not-false i inner, ← eo, not-true o fails)
 
-    module _ (outer : not o ≡ false) where
-      pub other-bits : (t .inner .bits ≡ t .outer .bits → ⊥) → false ≡ isTagSession t
+    module _ (outer : not o ≡ false) (m : Bool) (em : m ≡ isDoublePipe (t .inner .mode)) where
+      pub inner-other-mode : not m ≡ true → false ≡ isTagSession t
       unfolding isTagSession
-      other-bits n = rw (← ei, not-false i inner, ← eo, not-false o outer, ne-eqb _ _ n)
+      inner-other-mode fails = rw (← ei, not-false i inner, ← eo, not-false o outer, ← em, not-true m fails)
 
-      module _ (bits : t .inner .bits ≡ t .outer .bits) (s : Bool) (es : s ≡ same (t .inner .salt) (t .outer .salt)) where
-        pub other-salt : not s ≡ true → false ≡ isTagSession t
+      module _ (inner-mode : not m ≡ false) (d : Bool) (ed : d ≡ isDoublePipe (t .outer .mode)) where
+        pub outer-other-mode : not d ≡ true → false ≡ isTagSession t
         unfolding isTagSession
-        other-salt fails = rw (← ei, not-false i inner, ← eo, not-false o outer, eq-eqb _ _ bits, ← es, not-true s fails)
+        outer-other-mode fails = rw (← ei, not-false i inner, ← eo, not-false o outer, ← em, not-false m inner-mode, ← ed, not-true d fails)
 
-        module _ (salt : not s ≡ false) (b : ℕ) (size : b ≡ blockSize (t .outer .bits)) where
-          pub other-count : (t .outer .taken ≡ b → ⊥) → false ≡ isTagSession t
-          unfolding isTagSession
-          other-count n =
-              rw (← ei, not-false i inner, ← eo, not-false o outer, eq-eqb _ _ bits, ← es, not-false s salt, ← size, ne-eqb (t .outer .taken) b n)
+        -- both are sessions in double-pipe: what is left to test
+        module _ (outer-mode : not d ≡ false) where
+          abbrev left : Bool
+          left =
+              eqb (t .inner .bits) (t .outer .bits)
+              && (same (t .inner .salt) (t .outer .salt)
+              && (eqb (t .outer .taken) (blockSize (t .outer .bits)) && leb (blockSize (t .outer .bits)) (t .inner .taken)))
 
-          pub right-count : t .outer .taken ≡ b → leb b (t .inner .taken) ≡ isTagSession t
+          left-decides : left ≡ isTagSession t
           unfolding isTagSession
-          right-count e =
-              rw (← ei, not-false i inner, ← eo, not-false o outer, eq-eqb _ _ bits, ← es, not-false s salt, ← size, eq-eqb (t .outer .taken) b e)
+          left-decides = rw (← ei, not-false i inner, ← eo, not-false o outer, ← em, not-false m inner-mode, ← ed, not-false d outer-mode)
+
+          pub other-bits : (t .inner .bits ≡ t .outer .bits → ⊥) → false ≡ isTagSession t
+          other-bits n = let fails : false ≡ left = rw (ne-eqb _ _ n) in fails ∙ left-decides
+
+          module _ (bits : t .inner .bits ≡ t .outer .bits) (s : Bool) (es : s ≡ same (t .inner .salt) (t .outer .salt)) where
+            pub other-salt : not s ≡ true → false ≡ isTagSession t
+            other-salt n = let fails : false ≡ left = rw (eq-eqb _ _ bits, ← es, not-true s n) in fails ∙ left-decides
+
+            module _ (salt : not s ≡ false) (b : ℕ) (size : b ≡ blockSize (t .outer .bits)) where
+              pub other-count : (t .outer .taken ≡ b → ⊥) → false ≡ isTagSession t
+              other-count n =
+                  let fails : false ≡ left = rw (eq-eqb _ _ bits, ← es, not-false s salt, ← size, ne-eqb (t .outer .taken) b n) in fails ∙ left-decides
+
+              pub right-count : t .outer .taken ≡ b → leb b (t .inner .taken) ≡ isTagSession t
+              right-count e =
+                  let decides : leb b (t .inner .taken) ≡ left = rw (eq-eqb _ _ bits, ← es, not-false s salt, ← size, eq-eqb (t .outer .taken) b e) in
+                  decides ∙ left-decides
+
+double-pipe : (mode : Mode) → isDoublePipe mode ≡ true → mode ≡ DoublePipe
+double-pipe DoublePipe e = refl
+double-pipe SinglePipe e = absurd (true≢false (sym e))
 
 pub record TagFits (t : TagSession) : Type 0 where
   pub inner-is : isSession (t .inner) ≡ true
   pub outer-is : isSession (t .outer) ≡ true
+  pub inner-mode : t .inner .mode ≡ DoublePipe
+  pub outer-mode : t .outer .mode ≡ DoublePipe
   pub one-length : t .inner .bits ≡ t .outer .bits
   pub one-salt : t .inner .salt ≡ t .outer .salt
   pub outer-block : t .outer .taken ≡ blockSize (t .outer .bits)
@@ -70,12 +96,16 @@ unfolding isTagSession
 tag-fits t e =
     let p = both (isSession (t .inner)) _ e in
     let q = both (isSession (t .outer)) _ (p .1) in
-    let r = both (eqb (t .inner .bits) (t .outer .bits)) _ (q .1) in
+    let v = both (isDoublePipe (t .inner .mode)) _ (q .1) in
+    let w = both (isDoublePipe (t .outer .mode)) _ (v .1) in
+    let r = both (eqb (t .inner .bits) (t .outer .bits)) _ (w .1) in
     let s = both (same (t .inner .salt) (t .outer .salt)) _ (r .1) in
     let u = both (eqb (t .outer .taken) (blockSize (t .outer .bits))) _ (s .1) in
     record {
       inner-is = p .0;
       outer-is = q .0;
+      inner-mode = double-pipe _ (v .0);
+      outer-mode = double-pipe _ (w .0);
       one-length = eqb-true _ _ (r .0);
       one-salt = same-equal _ _ (s .0);
       outer-block = eqb-true _ _ (u .0);
@@ -84,7 +114,8 @@ tag-fits t e =
 
 pub fits-tag : (t : TagSession) → TagFits t → isTagSession t ≡ true
 fits-tag t F =
-    sym (right-count t true (sym (F .inner-is)) refl true (sym (F .outer-is)) refl (F .one-length) true
+    sym (right-count t true (sym (F .inner-is)) refl true (sym (F .outer-is)) refl true
+    (sym (ap isDoublePipe (F .inner-mode))) refl true (sym (ap isDoublePipe (F .outer-mode))) refl (F .one-length) true
     (sym (ap (same (t .inner .salt)) (sym (F .one-salt)) ∙ same-self (t .inner .salt))) refl _ refl (F .outer-block))
     ∙ le-leb _ _ (F .inner-more)
 
@@ -148,7 +179,7 @@ module _ (t : TagSession) (is : isTagSession t ≡ true) where
   inner-digest-long = session-digest-long (t .inner) most
 
   outer-room : t .outer .taken + length (sessionDigest (t .inner)) ≤ limit
-  outer-room = let S = sizes (t .outer .bits) in omega (arith, most, inner-digest-long, fits .outer-block)
+  outer-room = let S = double-block (t .outer .bits) in omega (arith, most, inner-digest-long, fits .outer-block)
 
   pub closes : (d : List ℕ) → d ≡ readLeaves (t .inner) (replicate 64 0) → (x : Answer) → x ≡ addAnswer (t .outer) (take (t .inner .bits / 8) d)
       → x .session ≡ closedBy t

@@ -8,17 +8,17 @@ use borrow.Author.Tests.{eq-eqb, le-ltb}
 use lib.ListN.{drop, length, length-append}
 use Rattle.aes_round.specs.Bytes.{xorBytes}
 use Rattle.aes_round.proofs.Laws.Xor.{length-xor}
+use Rattle.echo.specs.declared.mode.Mode.the-variants.{DoublePipe}
 use Rattle.echo.specs.declared.session.Session.{Session}
-use Rattle.echo.specs.Digest.{digestOf}
-use Rattle.echo.specs.Families.{blockSize}
 use Rattle.echo.specs.Refusals.{unless}
-use Rattle.echo.specs.Session.{addBytes, admitted, isSession, limit, opened, sessionDigest}
-use Rattle.echo.proofs.Laws.Families.{sizes}
+use Rattle.echo.specs.Session.{addBytes, admitted, isSession, limit, sessionDigest}
+use Rattle.echo.proofs.Laws.Families.{double-block}
 use Rattle.echo.proofs.Laws.Kept.{add-keeps}
-use Rattle.echo.proofs.Laws.Opened.{add-pieces, opened-bits, opened-digest, opened-is-session, opened-taken}
+use Rattle.echo.proofs.Laws.Opened.{add-pieces, opened-bits, opened-digest, opened-is-session, opened-mode, opened-taken}
 use Rattle.echo.proofs.Laws.Refusals.{done}
 use Rattle.hmac.specs.declared.tag_session.TagAnswer.{TagAnswer}
 use Rattle.hmac.specs.declared.tag_session.TagSession.{TagSession}
+use Rattle.hmac.specs.DoublePipe.{blockSize, digestOf, opened}
 use Rattle.hmac.specs.Hmac.{ipad, keyBlock, mac, opad, tagOf}
 use Rattle.hmac.specs.Same.{same}
 use Rattle.hmac.specs.TagSession.{addTagAnswer, addTagBytes, addTagRefusal, checkTagAnswer, checkTagRefusal, closedBy, isTagSession}
@@ -57,19 +57,19 @@ module _ (h : ℕ) (salt key : List ℕ) where
   outer-length = length-xor B _ (opad B)
 
   pub holds-bits : (m : List ℕ) → holding m .outer .bits ≡ h
-  holds-bits m = ap (λ (s : Session). s .bits) (outer-is m) ∙ opened-bits h salt (padded (opad B))
+  holds-bits m = ap (λ (s : Session). s .bits) (outer-is m) ∙ opened-bits DoublePipe h salt (padded (opad B))
 
   pub holds-count : (m : List ℕ) → holding m .inner .taken ≡ B + length m
-  holds-count m = ap (λ (s : Session). s .taken) (inner-is m) ∙ opened-taken h salt (padded (ipad B) ++ m) ∙ inner-length m
+  holds-count m = ap (λ (s : Session). s .taken) (inner-is m) ∙ opened-taken DoublePipe h salt (padded (ipad B) ++ m) ∙ inner-length m
 
   -- what is read is the standard's tag
   pub holds-tag : (m : List ℕ) → sessionTag (holding m) ≡ tagOf h salt key m
   unfolding sessionTag closedBy tagOf mac
   holds-tag m =
       ap₂ (λ (o i : Session). sessionDigest (addBytes o (sessionDigest i))) (outer-is m) (inner-is m)
-      ∙ ap (λ (d : List ℕ). sessionDigest (addBytes (addBytes (opened h salt) (padded (opad B))) d)) (opened-digest h salt (padded (ipad B) ++ m))
+      ∙ ap (λ (d : List ℕ). sessionDigest (addBytes (addBytes (opened h salt) (padded (opad B))) d)) (opened-digest DoublePipe h salt (padded (ipad B) ++ m))
       ∙ ap sessionDigest (add-pieces (opened h salt) (padded (opad B)) (digestOf h salt (padded (ipad B) ++ m)))
-      ∙ opened-digest h salt (padded (opad B) ++ digestOf h salt (padded (ipad B) ++ m))
+      ∙ opened-digest DoublePipe h salt (padded (opad B) ++ digestOf h salt (padded (ipad B) ++ m))
 
   module _ (a : admitted h ≡ true) where
     pub opens-tag : length salt ≡ 16 → length key ≤ limit → openTagAnswer h salt key ≡ record { refusal = 0; session = openedTag h salt key }
@@ -78,16 +78,18 @@ module _ (h : ℕ) (salt key : List ℕ) where
 
     pub holds-session : (m : List ℕ) → B + length m ≤ limit → isTagSession (holding m) ≡ true
     holds-session m few =
-        let S = sizes h in
+        let S = double-block h in
         fits-tag (holding m) (record {
-          inner-is = ap isSession (inner-is m) ∙ opened-is-session h salt (padded (ipad B) ++ m) a (omega (arith, inner-length m));
-          outer-is = ap isSession (outer-is m) ∙ opened-is-session h salt (padded (opad B)) a (omega (arith, outer-length));
-          one-length = ap (λ (s : Session). s .bits) (inner-is m) ∙ opened-bits h salt (padded (ipad B) ++ m) ∙ sym (holds-bits m);
+          inner-is = ap isSession (inner-is m) ∙ opened-is-session DoublePipe h salt (padded (ipad B) ++ m) a (omega (arith, inner-length m));
+          outer-is = ap isSession (outer-is m) ∙ opened-is-session DoublePipe h salt (padded (opad B)) a (omega (arith, outer-length));
+          inner-mode = ap (λ (s : Session). s .mode) (inner-is m) ∙ opened-mode DoublePipe h salt (padded (ipad B) ++ m);
+          outer-mode = ap (λ (s : Session). s .mode) (outer-is m) ∙ opened-mode DoublePipe h salt (padded (opad B));
+          one-length = ap (λ (s : Session). s .bits) (inner-is m) ∙ opened-bits DoublePipe h salt (padded (ipad B) ++ m) ∙ sym (holds-bits m);
           one-salt =
               ap (λ (s : Session). s .salt) (inner-is m) ∙ add-keeps (opened h salt) (padded (ipad B) ++ m) .1
               ∙ sym (ap (λ (s : Session). s .salt) (outer-is m) ∙ add-keeps (opened h salt) (padded (opad B)) .1);
           outer-block =
-              ap (λ (s : Session). s .taken) (outer-is m) ∙ opened-taken h salt (padded (opad B)) ∙ outer-length
+              ap (λ (s : Session). s .taken) (outer-is m) ∙ opened-taken DoublePipe h salt (padded (opad B)) ∙ outer-length
               ∙ ap blockSize (sym (holds-bits m));
           inner-more = rw (holds-bits m, holds-count m) (omega arith);
         })

@@ -8,6 +8,7 @@ use native.Mathlib.Omega.{arith}
 use borrow.Author.Tests.{eq-eqb, eqb-true, le-ltb, lt-ltb, ltb-false, ltb-true, ne-eqb}
 use lib.Dec.{eqb, ltb}
 use lib.ListN.{drop, length}
+use Rattle.echo.specs.declared.mode.Mode.the-variants.{DoublePipe}
 use Rattle.echo.specs.Digest.{digestOf}
 use Rattle.echo.specs.Session.{digestLeaves, digestRefusal}
 use Rattle.echo.proofs.Laws.Pieces.{admitted-256}
@@ -53,14 +54,14 @@ not-too-long t z = by (ltb 4096 (length t)) refl
 -- the digest layer accepts what it is handed, and leaves what a fingerprint leaves
 pub takes : (salt t room : List ℕ) → fingerprintAnswer (length salt) (length room) (parse t) .refusal ≡ 0
     → (digestRefusal 256 (length salt) (length (message t)) (length room) ≡ 0)
-    × (digestLeaves 256 salt (message t) room ≡ fingerprintLeaves salt t room)
+    × (digestLeaves DoublePipe 256 salt (message t) room ≡ fingerprintLeaves salt t room)
 unfolding fingerprintAnswer fingerprintLeaves
 takes salt t room z =
     let p = passes 1 (eqb (length salt) 16) _ _ refl z in
     let r = stays 4 (ltb (length room) 32) _ _ refl (p .1) in
     let salt-fits = eqb-true (length salt) 16 (p .0) in
     let room-fits = ltb-false (length room) 32 (r .0) in
-    rw (p .0, r .0, eq-eqb _ 0 (r .1)) (at-once-is-the-digest 256 salt t room admitted-256 salt-fits (omega (arith, not-too-long t (r .1))) room-fits)
+    rw (p .0, r .0, eq-eqb _ 0 (r .1)) (at-once-is-the-digest DoublePipe 256 salt t room admitted-256 salt-fits (omega (arith, not-too-long t (r .1))) room-fits)
 
 -- ---- the answers
 
@@ -89,12 +90,12 @@ module _ (salt t room : List ℕ) (a : Fingerprinted) (e : a ≡ fingerprintAnsw
   unfolding fingerprintLeaves
   left-alone n = rw (← e, ne-eqb (a .refusal) 0 n)
 
-  pub left-digest : a .refusal ≡ 0 → (u : List ℕ) → u ≡ digestLeaves 256 salt t room → u ≡ fingerprintLeaves salt t room
+  pub left-digest : a .refusal ≡ 0 → (u : List ℕ) → u ≡ digestLeaves DoublePipe 256 salt t room → u ≡ fingerprintLeaves salt t room
   left-digest z u d = d ∙ takes salt t room (sym (ap (λ (f : Fingerprinted). f .refusal) e) ∙ z) .1
 
 pub digested : (salt t room : List ℕ) (rs : List Record) → length salt ≡ 16 → 32 ≤ length room → parse t ≡ accepted rs
     → (fingerprintAnswer (length salt) (length room) (parse t) ≡ record { refusal = 0; place = 0 })
-    × (fingerprintLeaves salt t room ≡ digestOf 256 salt (message t) ++ drop 32 room)
+    × (fingerprintLeaves salt t room ≡ digestOf DoublePipe 256 salt (message t) ++ drop 32 room)
 unfolding fingerprintLeaves
 digested salt t room rs l h p = (answer, rw answer)
   where

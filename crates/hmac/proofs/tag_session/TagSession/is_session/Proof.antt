@@ -1,6 +1,7 @@
 -- `is_session` meets its contract, a case for each return. Assumes nothing.
 use borrow.Author.Needs.{needs}
-use Rattle.hmac.proofs.Laws.TagSessions.{no-inner, no-outer, other-bits, other-count, other-salt, right-count}
+use Rattle.hmac.proofs.Laws.TagSessions.{inner-other-mode, no-inner, no-outer, other-bits, other-count, other-salt, outer-other-mode}
+use Rattle.hmac.proofs.Laws.TagSessions.{right-count}
 use Rattle.hmac.proofs.tag_session.TagSession.is_session.Statement.{statement}
 use Rattle.hmac.proofs.tag_session.TagSession.is_session.Tie as tie
 
@@ -16,8 +17,20 @@ is-session-requires-2 c κs = search needs
 returns-2 : tie.Need-returns-2
 returns-2 c = search no-outer
 
+is-double-pipe-requires : tie.Need-is-double-pipe-requires
+is-double-pipe-requires c κs = search needs
+
 returns-3 : tie.Need-returns-3
-returns-3 c = search other-bits
+returns-3 c = search inner-other-mode
+
+is-double-pipe-requires-2 : tie.Need-is-double-pipe-requires-2
+is-double-pipe-requires-2 c κs = search needs
+
+returns-4 : tie.Need-returns-4
+returns-4 c = search outer-other-mode
+
+returns-5 : tie.Need-returns-5
+returns-5 c = search other-bits
 
 slice-aggregate-same : tie.Need-slice-aggregate-same
 slice-aggregate-same c = search needs
@@ -28,17 +41,17 @@ slice-aggregate-same-2 c = search needs
 same-requires : tie.Need-same-requires
 same-requires c κs = search needs
 
-returns-4 : tie.Need-returns-4
-returns-4 c = search other-salt
+returns-6 : tie.Need-returns-6
+returns-6 c = search other-salt
 
 block-size-requires : tie.Need-block-size-requires
 block-size-requires c κs = search needs
 
-returns-5 : tie.Need-returns-5
-returns-5 c = search other-count
+returns-7 : tie.Need-returns-7
+returns-7 c = search other-count
 
-returns-6 : tie.Need-returns-6
-returns-6 c = search right-count
+returns-8 : tie.Need-returns-8
+returns-8 c = search right-count
 
 pub is-session-spec : {M : Type 1} → statement M
 is-session-spec =
@@ -48,11 +61,15 @@ is-session-spec =
     returns
     is-session-requires-2
     returns-2
+    is-double-pipe-requires
     returns-3
+    is-double-pipe-requires-2
+    returns-4
+    returns-5
     slice-aggregate-same
     slice-aggregate-same-2
     same-requires
-    returns-4
+    returns-6
     block-size-requires
-    returns-5
-    returns-6)
+    returns-7
+    returns-8)

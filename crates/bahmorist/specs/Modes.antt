@@ -1,0 +1,51 @@
+-- Modes as numbers, for C, and what the routines that take such a number answer and leave behind, on every input. Assumes nothing.
+use mathlib.Core.Bool.{Bool, not, _||_}
+use mathlib.Core.List.{List, [], _∷_}
+use Prim.Native.Nat.{ℕ, _/_}
+use lib.Dec.{eqb, ltb}
+use lib.ListN.{length}
+use Rattle.echo.specs.declared.mode.Mode.{Mode}
+use Rattle.echo.specs.declared.mode.Mode.the-variants.{DoublePipe, SinglePipe}
+use Rattle.echo.specs.Families.{either, modeNumber, sizesFit}
+use Rattle.echo.specs.Refusals.{_when_, counterTooHigh, firstOf, noSalt, unless}
+use Rattle.echo.specs.Routines.{compressLeaves}
+use Rattle.echo.specs.Session.{admitted, digestLeaves, limit}
+
+-- 6: the number is no mode's
+abbrev pub noMode : ℕ → Bool
+noMode number = not (eqb number (modeNumber DoublePipe) || eqb number (modeNumber SinglePipe))
+
+-- the mode of a number that is one's
+abbrev pub modeOf : ℕ → Mode
+modeOf number = either (eqb number (modeNumber SinglePipe)) SinglePipe DoublePipe
+
+-- ---- the digest at once
+
+unfoldable pub digestInRefusal : ℕ → ℕ → ℕ → ℕ → ℕ → ℕ
+digestInRefusal number h saltLength messageLength room =
+    firstOf
+    ((1 when not (admitted h))
+    ∷ (2 when noSalt saltLength)
+    ∷ (4 when ltb limit messageLength)
+    ∷ (5 when ltb room (h / 8))
+    ∷ (6 when noMode number)
+    ∷ [])
+
+unfoldable pub digestInLeaves : ℕ → ℕ → List ℕ → List ℕ → List ℕ → List ℕ
+digestInLeaves number h salt message room =
+    unless (digestInRefusal number h (length salt) (length message) (length room)) (digestLeaves (modeOf number) h salt message room) room
+
+-- ---- compression
+
+unfoldable pub compressInRefusal : ℕ → ℕ → ℕ → ℕ → ℕ → ℕ
+compressInRefusal number chainingLength blockLength counter saltLength =
+    firstOf
+    ((2 when noSalt saltLength)
+    ∷ (6 when noMode number || not (sizesFit (modeOf number) chainingLength blockLength))
+    ∷ (7 when counterTooHigh counter)
+    ∷ [])
+
+unfoldable pub compressInLeaves : ℕ → List ℕ → List ℕ → ℕ → List ℕ → List ℕ
+compressInLeaves number chaining block counter salt =
+    unless (compressInRefusal number (length chaining) (length block) counter (length salt))
+    (compressLeaves (modeOf number) chaining block counter salt) chaining

@@ -12,6 +12,7 @@ use Rattle.echo.proofs.session.Session.is_session.Reads as is_session
 use Rattle.echo.proofs.session.Session.add.Reads as add
 use Rattle.echo.proofs.session.Session.read.Reads as read
 use Rattle.echo.proofs.digest_at_once.digest.Reads as digest
+use Rattle.echo.proofs.refusals.digest_refusal.Reads as digest_refusal
 
 pub rounds-has-one-answer : (κs : _) (a : _) (r r′ : _) (s s′ : _) → rounds.Post κs a r s → rounds.Post κs a r′ s′ → (r ≡ r′) × (now (s .0) ≡ now (s′ .0))
 rounds-has-one-answer κs a r r′ s s′ p q = (p .0 ∙ sym (q .0), p .1 ∙ sym (q .1))
@@ -43,3 +44,6 @@ read-has-one-answer κs a r r′ s s′ p q = (p .0 ∙ sym (q .0), p .1 ∙ sym
 pub digest-has-one-answer : (κs : _) (a : _) (r r′ : _) (s s′ : _) → digest.Post κs a r s → digest.Post κs a r′ s′
     → (r ≡ r′) × (now (s .1 .1 .1 .1 .0) ≡ now (s′ .1 .1 .1 .1 .0))
 digest-has-one-answer κs a r r′ s s′ p q = (p .0 ∙ sym (q .0), p .1 ∙ sym (q .1))
+
+pub digest-refusal-has-one-answer : (κs : _) (a : _) (r r′ : _) (s s′ : _) → digest_refusal.Post κs a r s → digest_refusal.Post κs a r′ s′ → r ≡ r′
+digest-refusal-has-one-answer κs a r r′ s s′ p q = p ∙ sym q

@@ -10,7 +10,7 @@ use lib.Dec.{eqb, ltb}
 use lib.ListN.{getD, length}
 use Rattle.aes_round.specs.Bytes.{tab}
 use Rattle.echo.specs.Compression.{compress}
-use Rattle.echo.specs.Refusals.{Refusal, _when_, firstOf, unless}
+use Rattle.echo.specs.Refusals.{Refusal, _when_, counterTooHigh, firstOf, noSalt, unless}
 use Rattle.echo.specs.Families.{roundCount, sizesFit}
 use Rattle.echo.specs.Routines.{compressLeaves, compressRefusal, roundsRefusal}
 use Rattle.echo.specs.Session.{admitted, digestRefusal, isSession, limit, readAnswer, readRefusal}
@@ -93,6 +93,20 @@ module _ (bits salt message room : ℕ) (t : Bool) (e : t ≡ admitted bits) whe
         pub digest-0 : bits / 8 ≤ room → 0 ≡ digestRefusal bits salt message room
         unfolding digestRefusal
         digest-0 r = simp (sym e ∙ not-false t n, eq-eqb salt 16 s, le-ltb limit message m, le-ltb room (bits / 8) r)
+
+-- ---- the refusals in order, for whoever knows this crate by its promises alone
+
+pub compress-number : (mode : Mode) (chaining block counter salt : ℕ)
+    → compressRefusal mode chaining block counter salt
+    ≡ firstOf ((2 when noSalt salt) ∷ (6 when not (sizesFit mode chaining block)) ∷ (7 when counterTooHigh counter) ∷ [])
+unfolding compressRefusal
+compress-number mode chaining block counter salt = refl
+
+pub digest-number : (bits salt message room : ℕ)
+    → digestRefusal bits salt message room
+    ≡ firstOf ((1 when not (admitted bits)) ∷ (2 when noSalt salt) ∷ (4 when ltb limit message) ∷ (5 when ltb room (bits / 8)) ∷ [])
+unfolding digestRefusal
+digest-number bits salt message room = refl
 
 -- ---- what no refusal means
 

@@ -20,6 +20,7 @@ pub mod Sessions
 pub mod Ends
 pub mod Stream
 pub mod Folded
+pub mod SinglePipe
 pub mod Padded
 pub mod States
 pub mod Kept

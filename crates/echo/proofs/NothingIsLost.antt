@@ -1,22 +1,27 @@
 -- Nothing is lost before the fold. For each number n of rounds, 8 and 10 among them, each salt of sixteen bytes and each starting counter:
 -- the rounds send different squares of 256 bytes to different squares and reach every square; the way back undoes them, and they undo
 -- it, exactly, as definitions and as routines; row shift and word-column mix of two squares xored are their two results xored; and the new
--- chaining value is the fold of the starting square xored with the fold of the finished one. Assumes nothing.
+-- chaining value is the fold of the starting square xored with the fold of the finished one, in either mode; in single-pipe it is what section 5 prints.
+-- Assumes nothing.
 use mathlib.Core.Path.{_≡_, refl, sym, ap, _∙_}
 use mathlib.Core.List.{List, _++_}
 use Prim.Native.Nat.{ℕ, _+_, _*_, _-_, _/_, _<_}
+use native.Mathlib.Omega.{arith}
 use lib.ListN.{length}
 use Rattle.aes_round.specs.Bytes.{Bytes, xorBytes}
 use Rattle.aes_round.specs.Mixing.{forward}
 use Rattle.aes_round.proofs.Laws.Rounds.{mix-columns-xor, shift-xor}
 use Rattle.echo.specs.declared.mode.Mode.{Mode}
+use Rattle.echo.specs.declared.mode.Mode.the-variants.{SinglePipe}
 use Rattle.echo.specs.Compression.{bigFinal, compress, fold}
-use Rattle.echo.specs.Families.{roundCount}
+use Rattle.echo.specs.Families.{chainingSize, roundCount}
 use Rattle.echo.specs.Routines.{compressLeaves, compressRefusal, roundsBackLeave, roundsLeave}
+use Rattle.echo.specs.SinglePipe.{compress51, compress52}
 use Rattle.echo.specs.Square.{bigMixColumns, bigShiftRows, keysFrom, rounds, roundsBack}
 use Rattle.echo.proofs.Laws.Compression.{block-parts, fold-loaded}
 use Rattle.echo.proofs.Laws.Numbers.{key-bytes}
 use Rattle.echo.proofs.Laws.Refusals.{compress-parts, compress-some, compress-square, done}
+use Rattle.echo.proofs.Laws.SinglePipe.{as-printed-51, as-printed-52}
 use Rattle.echo.proofs.Laws.Square.{Keys, rounds-are-squares, rounds-back-are-squares, rounds-back-undone, rounds-undone}
 use Rattle.echo.proofs.Laws.Undone.{undo-each-other}
 
@@ -79,3 +84,23 @@ compress-leaves-the-folds mode chaining block counter salt z =
     done _ _ chaining z
     ∙ new-chaining-value (length chaining) (256 / length chaining - 1) (roundCount mode (length chaining)) counter salt chaining block some refl
     (block-parts (length chaining) (length block) (256 / length chaining) square parts)
+
+-- what it leaves in single-pipe, as section 5 prints it
+module _ (chaining block : List ℕ) (counter : ℕ) (salt : List ℕ) (z : compressRefusal SinglePipe (length chaining) (length block) counter (length salt) ≡ 0) where
+  leaves : (c n : ℕ) → length chaining ≡ c → roundCount SinglePipe c ≡ n
+      → (compressLeaves SinglePipe chaining block counter salt ≡ compress c n (keysFrom counter) salt chaining block) × (c + length block ≡ 256)
+  unfolding compressLeaves
+  leaves c n l r = (
+    done _ _ chaining z
+        ∙ ap (λ (x : ℕ). compress x (roundCount SinglePipe x) (keysFrom counter) salt chaining block) l
+        ∙ ap (λ (x : ℕ). compress c x (keysFrom counter) salt chaining block) r,
+    ap (λ (x : ℕ). x + length block) (sym l) ∙ compress-square SinglePipe chaining block counter salt _ refl z,
+  )
+
+  pub compress-leaves-section-5-1 : length chaining ≡ 32 → compressLeaves SinglePipe chaining block counter salt ≡ compress51 (keysFrom counter) salt chaining block
+  unfolding chainingSize
+  compress-leaves-section-5-1 l = let L = leaves 32 8 l refl in L .0 ∙ as-printed-51 (keysFrom counter) salt chaining block l (omega (arith, L .1))
+
+  pub compress-leaves-section-5-2 : length chaining ≡ 64 → compressLeaves SinglePipe chaining block counter salt ≡ compress52 (keysFrom counter) salt chaining block
+  unfolding chainingSize
+  compress-leaves-section-5-2 l = let L = leaves 64 10 l refl in L .0 ∙ as-printed-52 (keysFrom counter) salt chaining block l (omega (arith, L .1))

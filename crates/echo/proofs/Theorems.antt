@@ -18,7 +18,7 @@ use Rattle.echo.specs.declared.mode.Mode.the-variants.{DoublePipe, Singl
 use Rattle.echo.specs.declared.session.Session.{Session}
 use Rattle.echo.specs.Compression.{compress, fold}
 use Rattle.echo.specs.Digest.{block, blockCount, counterAt, digestOf, iterate}
-use Rattle.echo.specs.Families.{blockSize, chainingSize, roundCount}
+use Rattle.echo.specs.Families.{blockSize, chainingSize, modeNumber, roundCount}
 use Rattle.echo.specs.Padding.{pad, padding}
 use Rattle.echo.specs.Pieces.{addAll, joined}
 use Rattle.echo.specs.Routines.{compressLeaves, compressRefusal, roundsBackLeave, roundsLeave, roundsRefusal}
@@ -39,14 +39,17 @@ use Rattle.echo.specs.Session.{
   readLeaves,
   readRefusal,
 }
+use Rattle.echo.specs.SinglePipe.{compress51, compress52}
 use Rattle.echo.specs.Square.{bigMixColumns, bigShiftRows, bigSubWords, keysFrom, rounds, roundsBack, word}
 use Rattle.echo.proofs.ARefusalChangesNothing as refusing
 use Rattle.echo.proofs.Laws.ByTables as by-tables
 use Rattle.echo.proofs.Laws.Continued as continued
 use Rattle.echo.proofs.Laws.Folded as folded
 use Rattle.echo.proofs.Laws.Marked as marked
+use Rattle.echo.proofs.Laws.Marked.{sizesAt}
 use Rattle.echo.proofs.Laws.MixedNumbers as mixed-numbers
 use Rattle.echo.proofs.Laws.Padded as padded
+use Rattle.echo.proofs.Laws.SinglePipe as single-pipe
 use Rattle.echo.proofs.Laws.Words as words
 use Rattle.echo.proofs.NothingIsLost as mixing
 use Rattle.echo.proofs.TheDigest as digest
@@ -297,3 +300,49 @@ the-short-fold s i l = folded.fold-short s l i
 
 pub the-long-fold : (s : List ℕ) (i : ℕ) → length s ≡ 256 → i < 8 → word (fold 128 s) i ≡ xorBytes 16 (word s i) (word s (i + 8))
 the-long-fold s i l = folded.fold-long s l i
+
+-- one more fold, as 5.1 has it: v0 = x0 xor x2 and v1 = x1 xor x3
+pub the-single-pipe-fold : (s : List ℕ) (i : ℕ)
+    → length s ≡ 256
+    → i < 2
+    → word (fold 32 s) i ≡ xorBytes 16 (word (fold 64 s) i) (word (fold 64 s) (i + 2))
+the-single-pipe-fold s i l = folded.fold-single s l i
+
+-- ---- section 5 as it is printed
+
+pub section-5-1-is-the-general-compression : (key : ℕ → List ℕ) (salt chaining block : List ℕ)
+    → length chaining ≡ 32
+    → length block ≡ 224
+    → compress 32 8 key salt chaining block ≡ compress51 key salt chaining block
+section-5-1-is-the-general-compression = single-pipe.as-printed-51
+
+pub section-5-2-is-the-general-compression : (key : ℕ → List ℕ) (salt chaining block : List ℕ)
+    → length chaining ≡ 64
+    → length block ≡ 192
+    → compress 64 10 key salt chaining block ≡ compress52 key salt chaining block
+section-5-2-is-the-general-compression = single-pipe.as-printed-52
+
+-- what the routine leaves in single-pipe
+pub compress-leaves-section-5-1 : (chaining block : List ℕ) (counter : ℕ) (salt : List ℕ)
+    → compressRefusal SinglePipe (length chaining) (length block) counter (length salt) ≡ 0
+    → length chaining ≡ 32
+    → compressLeaves SinglePipe chaining block counter salt ≡ compress51 (keysFrom counter) salt chaining block
+compress-leaves-section-5-1 = mixing.compress-leaves-section-5-1
+
+pub compress-leaves-section-5-2 : (chaining block : List ℕ) (counter : ℕ) (salt : List ℕ)
+    → compressRefusal SinglePipe (length chaining) (length block) counter (length salt) ≡ 0
+    → length chaining ≡ 64
+    → compressLeaves SinglePipe chaining block counter salt ≡ compress52 (keysFrom counter) salt chaining block
+compress-leaves-section-5-2 = mixing.compress-leaves-section-5-2
+
+-- ---- the sizes in numbers: chaining variable, block and rounds, up to 256 bits and above; and the longest message of one block with its successor
+pub the-sizes-of-both-modes : Hold
+    (((modeNumber DoublePipe ∷ modeNumber SinglePipe ∷ []) gives (0 ∷ 1 ∷ []))
+    ∷ (sizesAt DoublePipe 256 gives (64 ∷ 192 ∷ 8 ∷ []))
+    ∷ (sizesAt DoublePipe 257 gives (128 ∷ 128 ∷ 10 ∷ []))
+    ∷ (sizesAt SinglePipe 256 gives (32 ∷ 224 ∷ 8 ∷ []))
+    ∷ (sizesAt SinglePipe 257 gives (64 ∷ 192 ∷ 10 ∷ []))
+    ∷ ((blockCount (blockSize SinglePipe 256) 205 ∷ blockCount (blockSize SinglePipe 256) 206 ∷ []) gives (1 ∷ 2 ∷ []))
+    ∷ ((blockCount (blockSize SinglePipe 512) 173 ∷ blockCount (blockSize SinglePipe 512) 174 ∷ []) gives (1 ∷ 2 ∷ []))
+    ∷ [])
+the-sizes-of-both-modes = marked.sizes-of-both-modes

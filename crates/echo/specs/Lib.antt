@@ -5,6 +5,7 @@ pub mod Families
 pub mod Refusals
 pub mod Square
 pub mod Compression
+pub mod SinglePipe
 pub mod Routines
 pub mod Padding
 pub mod Digest

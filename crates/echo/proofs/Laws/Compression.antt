@@ -84,6 +84,10 @@ module _ (c : ℕ) (v₀ src : List ℕ) where
 
 -- ---- the fold of a loaded square
 
+pub sum-ext : (n : ℕ) (f g : ℕ → ℕ) → ((i : ℕ) → f i ≡ g i) → xorSum n f ≡ xorSum n g
+sum-ext zero f g e = refl
+sum-ext (suc n) f g e = ap₂ xor (sum-ext n f g e) (e n)
+
 -- a sum by its first term
 xorSum-first : (n : ℕ) (f : ℕ → ℕ) → xorSum (suc n) f ≡ xor (f 0) (xorSum n (λ i. f (suc i)))
 xorSum-first zero f = xor-zero-l (f 0) ∙ sym (xor-zero-r (f 0))
@@ -111,10 +115,6 @@ fold-loaded c v m n h lv lm =
 
     behind : (j k : ℕ) → c * suc j + k ≡ c + (c * j + k)
     behind j k = omega (arith, mul-suc c j)
-
-    sum-ext : (n : ℕ) (f g : ℕ → ℕ) → ((i : ℕ) → f i ≡ g i) → xorSum n f ≡ xorSum n g
-    sum-ext zero f g e = refl
-    sum-ext (suc n) f g e = ap₂ xor (sum-ext n f g e) (e n)
 
 -- ---- what the code does
 

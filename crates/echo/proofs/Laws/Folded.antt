@@ -1,16 +1,35 @@
 -- The fold of a square in words. Assumes nothing.
-use mathlib.Core.Path.{_≡_, sym, ap, ap₂, _∙_}
+use mathlib.Core.Path.{_≡_, refl, sym, ap, ap₂, _∙_}
 use mathlib.Core.List.{List}
-use Prim.Native.Nat.{ℕ, _+_, _*_, _/_, _<_}
+use Prim.Native.Nat.{ℕ, zero, suc, _+_, _*_, _/_, _<_}
 use native.Mathlib.Omega.{arith}
 use lib.ListN.{getD, length}
 use Rattle.aes_round.specs.Array.{entry}
 use Rattle.aes_round.specs.Bytes.{xor, xorBytes}
 use Rattle.aes_round.proofs.Laws.Array.{entry-is}
 use Rattle.aes_round.proofs.Laws.Bytes.{getD-tab, tab-ext}
-use Rattle.aes_round.proofs.Laws.Xor.{xor-tab, xor-zero-l}
+use Rattle.aes_round.proofs.Laws.Xor.{xor-assoc, xor-self, xor-swap, xor-tab, xor-zero-l}
 use Rattle.echo.specs.Compression.{fold, xorSum}
 use Rattle.echo.specs.Square.{word}
+use Rattle.echo.proofs.Laws.Compression.{sum-ext}
+
+twice : ℕ → ℕ
+twice zero = zero
+twice (suc n) = suc (suc (twice n))
+
+twice-is : (n : ℕ) → twice n ≡ 2 * n
+unfolding twice
+twice-is zero = refl
+twice-is (suc n) = omega (arith, twice-is n)
+
+-- a sum by its even and its odd terms
+even-and-odd : (n : ℕ) (f : ℕ → ℕ) → xorSum (twice n) f ≡ xor (xorSum n (λ j. f (twice j))) (xorSum n (λ j. f (suc (twice j))))
+unfolding twice
+even-and-odd zero f = sym (xor-self 0)
+even-and-odd (suc n) f =
+    ap (λ (x : ℕ). xor (xor x (f (twice n))) (f (suc (twice n)))) (even-and-odd n f)
+    ∙ xor-assoc _ _ _
+    ∙ xor-swap _ _ _ _
 
 module _ (s : List ℕ) (l : length s ≡ 256) (i : ℕ) where
   byte-at : (k e b : ℕ) → k ≡ 16 * e + b → getD s k 0 ≡ entry 16 s e b
@@ -40,3 +59,25 @@ module _ (s : List ℕ) (l : length s ≡ 256) (i : ℕ) where
   fold-long h =
       tab-ext 16 _ _ (λ b lt. summed 128 b (omega arith) ∙ ap₂ xor (xor-zero-l _ ∙ byte-at _ i b (omega arith)) (byte-at _ (i + 8) b (omega arith)))
       ∙ sym (xor-tab 16 _ _)
+
+-- a fold to 32 bytes is a fold to 64 and one more
+pub fold-single : (s : List ℕ) → length s ≡ 256 → (i : ℕ) → i < 2 → word (fold 32 s) i ≡ xorBytes 16 (word (fold 64 s) i) (word (fold 64 s) (i + 2))
+unfolding word twice
+fold-single s l i h =
+    tab-ext 16 _ _
+    (λ b lt.
+    summed s l i 32 b (omega arith)
+    ∙ even-and-odd 4 (λ j. getD s (32 * j + (16 * i + b)) 0)
+    ∙ ap₂ xor
+    (sum-ext 4 _ _ (λ j. at (even j b)) ∙ sym (summed s l i 64 b (omega arith)))
+    (sum-ext 4 _ _ (λ j. at (odd j b)) ∙ sym (summed s l (i + 2) 64 b (omega arith))))
+    ∙ sym (xor-tab 16 _ _)
+  where
+    at : {k m : ℕ} → k ≡ m → getD s k 0 ≡ getD s m 0
+    at p = ap (λ (x : ℕ). getD s x 0) p
+
+    even : (j b : ℕ) → 32 * twice j + (16 * i + b) ≡ 64 * j + (16 * i + b)
+    even j b = omega (arith, twice-is j)
+
+    odd : (j b : ℕ) → 32 * suc (twice j) + (16 * i + b) ≡ 64 * j + (16 * (i + 2) + b)
+    odd j b = omega (arith, twice-is j)

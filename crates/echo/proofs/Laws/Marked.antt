@@ -1,4 +1,4 @@
--- The marked examples of counters and padding, by computation. Assumes nothing.
+-- The marked examples of counters and padding, and the sizes of both modes, by computation. Assumes nothing.
 use mathlib.Core.Path.{_≡_, refl, sym, ap}
 use mathlib.Core.List.{List, [], _∷_, _++_}
 use Prim.Native.Nat.{ℕ, zero, suc, _<_}
@@ -6,10 +6,12 @@ use native.Mathlib.Omega.{arith}
 use lib.Dec.{lit<}
 use lib.ListN.{getD, replicate}
 use Rattle.aes_round.specs.Bytes.{tab}
+use Rattle.aes_round.specs.Marked.{Hold, _gives_}
 use Rattle.aes_round.proofs.Laws.Bytes.{is-tab}
-use Rattle.echo.specs.declared.mode.Mode.the-variants.{DoublePipe}
+use Rattle.echo.specs.declared.mode.Mode.{Mode}
+use Rattle.echo.specs.declared.mode.Mode.the-variants.{DoublePipe, SinglePipe}
 use Rattle.echo.specs.Digest.{blockCount, counterAt}
-use Rattle.echo.specs.Families.{blockSize, chainingSize}
+use Rattle.echo.specs.Families.{blockSize, chainingSize, modeNumber, roundCount}
 use Rattle.echo.specs.Padding.{pad, padding}
 use Rattle.echo.proofs.Laws.Numbers.{lengths-are}
 
@@ -39,3 +41,19 @@ pub abc-padded : pad (blockSize DoublePipe 256) 256 (0x61 ∷ 0x62 ∷ 0x63 ∷ 
     ≡ 0x61 ∷ 0x62 ∷ 0x63 ∷ 0x80 ∷ (replicate 170 0 ++ (0x00 ∷ 0x01 ∷ 0x18 ∷ replicate 15 0))
 unfolding blockSize chainingSize pad padding
 abc-padded = ap (λ (e : List ℕ). 0x61 ∷ 0x62 ∷ 0x63 ∷ 0x80 ∷ (replicate 170 0 ++ e)) (sym (lengths-are 256 24 (lit< tt)))
+
+-- the sizes of a mode and a digest length: chaining variable, block and rounds
+abbrev pub sizesAt : Mode → ℕ → List ℕ
+sizesAt mode h = chainingSize mode h ∷ blockSize mode h ∷ roundCount mode (chainingSize mode h) ∷ []
+
+pub sizes-of-both-modes : Hold
+    (((modeNumber DoublePipe ∷ modeNumber SinglePipe ∷ []) gives (0 ∷ 1 ∷ []))
+    ∷ (sizesAt DoublePipe 256 gives (64 ∷ 192 ∷ 8 ∷ []))
+    ∷ (sizesAt DoublePipe 257 gives (128 ∷ 128 ∷ 10 ∷ []))
+    ∷ (sizesAt SinglePipe 256 gives (32 ∷ 224 ∷ 8 ∷ []))
+    ∷ (sizesAt SinglePipe 257 gives (64 ∷ 192 ∷ 10 ∷ []))
+    ∷ ((blockCount (blockSize SinglePipe 256) 205 ∷ blockCount (blockSize SinglePipe 256) 206 ∷ []) gives (1 ∷ 2 ∷ []))
+    ∷ ((blockCount (blockSize SinglePipe 512) 173 ∷ blockCount (blockSize SinglePipe 512) 174 ∷ []) gives (1 ∷ 2 ∷ []))
+    ∷ [])
+unfolding blockSize chainingSize blockCount
+sizes-of-both-modes = (refl, (refl, (refl, (refl, (refl, (refl, (refl, tt)))))))

@@ -1,11 +1,12 @@
 // Digests the messages of standard input's cases, at once or in pieces, and prints each digest in hex, or `refused N`.
 //
 // A case is 32 bytes: the digest length in bits (two bytes), the message's length (two), a seed, the piece size (two; 0 for the digest at
-// once), the salt's length, eight zeros and sixteen salt bytes. Numbers have their least significant byte first. The message's byte i is
+// once), the salt's length, the mode (0 double-pipe, 1 single-pipe), seven zeros and sixteen salt bytes. Numbers have their least significant byte first. The message's byte i is
 // seed + 29 i + 101 (i / 256), modulo 256. With pieces the digest is read after each piece, too: reading changes nothing.
 ghost use Prim.Native.Nat.{_≤_, _+_, _<_};
 ghost use mathlib.Core.Path.{_≡_};
 ghost use lib.ListN.{length};
+use echo::Mode;
 use echo::Session;
 use libc::STDIN_FILENO;
 use libc::STDOUT_FILENO;
@@ -25,6 +26,14 @@ fn short(bytes: &[u8], at: usize) -> usize
     ensures { λ r. ⌜ r < 65536 ⌝ }
 {
     (wide(bytes[at]) + 256 * wide(bytes[at + 1])) as usize
+}
+
+fn mode_of(number: u8) -> Mode {
+    if number == 1 {
+        Mode::SinglePipe
+    } else {
+        Mode::DoublePipe
+    }
 }
 
 fn fill(message: &mut [u8], seed: u8)
@@ -85,13 +94,21 @@ fn in_pieces(opened: Session, message: &[u8], k: usize, out: &mut [u8]) -> u8
 }
 
 // The digest of the first n bytes of `room`.
-fn digest_of(bits: u64, salt: &[u8], room: &[u8], n: usize, k: usize, out: &mut [u8]) -> u8
+fn digest_of(
+    mode: Mode,
+    bits: u64,
+    salt: &[u8],
+    room: &[u8],
+    n: usize,
+    k: usize,
+    out: &mut [u8],
+) -> u8
     requires { ⌜ n ≤ length (now room) ⌝ }
 {
     if k == 0 {
-        return echo::digest(bits, salt, &room[0..n], out);
+        return echo::digest(mode, bits, salt, &room[0..n], out);
     }
-    let opening = Session::open(bits, salt);
+    let opening = Session::open(mode, bits, salt);
     let refused = opening.refusal;
     if refused != 0 {
         return refused;
@@ -115,7 +132,15 @@ fn run(case: &[u8])
     let mut room = [0u8; 1024];
     fill(&mut room, case[4]);
     let mut out = [0u8; 64];
-    let refusal = digest_of(bits as u64, &case[16..salt_end], &room, n, k, &mut out);
+    let refusal = digest_of(
+        mode_of(case[8]),
+        bits as u64,
+        &case[16..salt_end],
+        &room,
+        n,
+        k,
+        &mut out,
+    );
     if refusal != 0 {
         print_refused(refusal);
         return;

@@ -1,12 +1,13 @@
 // Runs rounds, forward and backward, and compressions on the cases of standard input, which a second implementation made, and prints
 // the refusal number of each and the whole lent memory behind it.
 //
-// A case is 513 bytes: a kind (1 rounds, 2 rounds back, 3 compression, 4 rounds byte by byte), the salt's length, the round count, the length of
+// A case is 545 bytes: a kind (1 rounds, 2 rounds back, 3 compression, 4 rounds byte by byte, 5 compression in single-pipe), the salt's length, the round count, the length of
 // the square or chaining variable and that of the block (two bytes each), the counter (eight bytes), then room for the salt (18 bytes), for the
-// square or chaining variable (272) and for the block (208). Numbers have their least significant byte first.
+// square or chaining variable (272) and for the block (240). Numbers have their least significant byte first.
 ghost use Prim.Native.Nat.{_≤_, _+_, _<_};
 ghost use mathlib.Core.Path.{_≡_};
 ghost use lib.ListN.{length};
+use echo::Mode;
 use libc::STDIN_FILENO;
 use libc::STDOUT_FILENO;
 use lines::put;
@@ -68,13 +69,15 @@ fn apply(
         echo::rounds_back(lent, count, counter, salt)
     } else if kind == 4 {
         echo::rounds_by_bytes(lent, count, counter, salt)
+    } else if kind == 5 {
+        echo::compress(Mode::SinglePipe, lent, block, counter, salt)
     } else {
-        echo::compress(lent, block, counter, salt)
+        echo::compress(Mode::DoublePipe, lent, block, counter, salt)
     }
 }
 
 fn run(case: &[u8])
-    requires { ⌜ length (now case) ≡ 513 ⌝ }
+    requires { ⌜ length (now case) ≡ 545 ⌝ }
 {
     let salt_end = 15 + wide(case[1]) as usize;
     let a_end = short(case, 3);
@@ -85,7 +88,7 @@ fn run(case: &[u8])
     if 272 < a_end {
         return;
     }
-    if 513 < block_end {
+    if 545 < block_end {
         return;
     }
     let mut a = [0u8; 272];
@@ -108,11 +111,11 @@ fn run(case: &[u8])
 
 // A proved loop has to end, and nothing says that the input does: the turns count down from a number that no run uses up.
 fn main() {
-    let mut case = [0u8; 513];
+    let mut case = [0u8; 545];
     let mut turns = u64::MAX;
     while 0 < turns {
         let n = io::read_full(STDIN_FILENO, &mut case);
-        if n < 513 {
+        if n < 545 {
             return;
         }
         run(&case);

@@ -1,4 +1,4 @@
-// Prints the ECHO digest of each file that is named, or of standard input: echosum [-b BITS] [-s SALT] [FILE...]. Every line is one write.
+// Prints the ECHO digest of each file that is named, or of standard input: echosum [-1] [-b BITS] [-s SALT] [FILE...]. Every line is one write.
 mod hexadecimal;
 mod options;
 mod saying;
@@ -7,6 +7,7 @@ mod words;
 
 ghost use Prim.Native.Nat.{_≤_};
 ghost use lib.ListN.{length};
+use echo::Mode;
 use echo::Session;
 use options::Options;
 use options::defaults;
@@ -59,8 +60,17 @@ fn sum_files(session: Session) {
     }
 }
 
+fn mode_asked(is_single: bool) -> Mode {
+    if is_single {
+        Mode::SinglePipe
+    } else {
+        Mode::DoublePipe
+    }
+}
+
 fn sum_asked(options: Options) {
-    let opening = Session::open(options.bits, &options.salt);
+    let mode = mode_asked(options.is_single);
+    let opening = Session::open(mode, options.bits, &options.salt);
     let refused = opening.refusal;
     if refused != 0 {
         say_bad_bits(options.bits);

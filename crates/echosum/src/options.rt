@@ -6,6 +6,8 @@ use super::words::salt_in;
 
 // What the words so far ask for, and what the next one is.
 pub(crate) struct Options {
+    // whether single-pipe is asked for
+    pub is_single: bool,
     pub bits: u64,
     pub salt: [u8; 16],
     // whether the last word was a file, and whether any was
@@ -24,6 +26,7 @@ pub(crate) struct Options {
 
 pub(crate) fn defaults() -> Options {
     Options {
+        is_single: false,
         bits: 256,
         salt: [0; 16],
         is_file: false,
@@ -77,7 +80,9 @@ impl Options {
     }
 
     fn take_flag(mut self, word: &[u8]) -> Options {
-        if is_flag(word, b'b') {
+        if is_flag(word, b'1') {
+            self.is_single = true;
+        } else if is_flag(word, b'b') {
             self.wants_bits = true;
         } else if is_flag(word, b's') {
             self.wants_salt = true;

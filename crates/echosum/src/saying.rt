@@ -31,7 +31,7 @@ pub(crate) fn say_bad_word(word: &[u8]) {
     say(
         b"echosum: bad word ",
         word,
-        b" (usage: echosum [-b BITS] [-s SALT] [FILE...])\n",
+        b" (usage: echosum [-1] [-b BITS] [-s SALT] [FILE...])\n",
     );
 }
 
@@ -39,7 +39,7 @@ pub(crate) fn say_no_value(flag: &[u8]) {
     say(
         b"echosum: no value behind ",
         flag,
-        b" (usage: echosum [-b BITS] [-s SALT] [FILE...])\n",
+        b" (usage: echosum [-1] [-b BITS] [-s SALT] [FILE...])\n",
     );
 }
 
@@ -54,7 +54,7 @@ pub(crate) fn say_bad_bits(bits: u64) {
 pub(crate) fn print_usage() {
     let is_written = io::write_all(
         STDOUT_FILENO,
-        b"usage: echosum [-b BITS] [-s SALT] [FILE...]\nPrints the ECHO digest of each FILE, or of standard input. BITS is 128 to 512 by eights, and 256 where not given; SALT is 32 hex digits, and zeros where not given.\n",
+        b"usage: echosum [-1] [-b BITS] [-s SALT] [FILE...]\nPrints the ECHO digest of each FILE, or of standard input, double-pipe or, with -1, single-pipe. BITS is 128 to 512 by eights, and 256 where not given; SALT is 32 hex digits, and zeros where not given.\n",
     );
     if !is_written {
         say_why(b"standard output");

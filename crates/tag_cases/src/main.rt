@@ -1,15 +1,19 @@
 // Makes and checks the tags of standard input's cases, and opens, adds to, reads, checks and asks about tag sessions, which need not come from an
 // opening nor be tag sessions at all. Prints the tags, and everything that is handed back.
 //
-// A case is a head of 40 bytes: the task (1 a whole message, 2 open, 3 add, 4 read, 5 ask whether it is a tag session, 6 check); the length of the
-// piece, of the output room or of the tag; the digest length in bits (eight bytes); the lengths of key and message (two each); the piece size (two; 0
-// for at once); seeds of key and message; the salt's length; five zeros; and sixteen salt bytes. Behind the head of tasks 3 to 6 stand 959 bytes: the
-// inner and the outer session, each the digest length in bits (eight), the message bytes so far (eight), the salt (16), the chaining value's room (128)
-// and the waiting block's (192); then the room of the piece, the output or the tag (255). Numbers have their least significant byte first. Byte i of
-// key or message is seed + 29 i + 101 (i / 256), modulo 256.
+// A case is a head of 40 bytes: the task; the length of the piece, of the output room or of the tag; the digest length in bits (eight bytes); the
+// lengths of key and message (two each); the piece size (two; 0 for at once); seeds of key and message; the salt's length; five zeros; and sixteen salt
+// bytes. Behind the head of tasks 3 to 9 stand 1025 bytes: the inner and the outer session, each the digest length in bits (eight), the message bytes so
+// far (eight), the salt (16), the chaining value's room (128), the waiting block's (224) and the mode (0 double-pipe, 1 single-pipe); then the room of
+// the piece, the output or the tag (255). Numbers have their least significant byte first. Byte i of key or message is seed + 29 i + 101 (i / 256),
+// modulo 256.
+//
+// The tasks are 1 a whole message, 2 open, 3 add, 4 read, 5 ask whether it is a tag session, 6 check; and 7 add, 8 read, 9 check, which print all of the
+// two sessions that are handed back, where 2, 3, 4 and 6 leave the modes and the waiting blocks' last 32 bytes out.
 ghost use Prim.Native.Nat.{_≤_, _+_, _<_};
 ghost use mathlib.Core.Path.{_≡_};
 ghost use lib.ListN.{length};
+use echo::Mode;
 use echo::Session;
 use hmac::Checking;
 use hmac::TagAnswer;
@@ -69,10 +73,25 @@ fn fill(room: &mut [u8], seed: u8)
     }
 }
 
+fn mode_of(number: u8) -> Mode {
+    if number == 1 {
+        Mode::SinglePipe
+    } else {
+        Mode::DoublePipe
+    }
+}
+
+fn number_of(mode: Mode) -> u64 {
+    match mode {
+        Mode::DoublePipe => 0,
+        Mode::SinglePipe => 1,
+    }
+}
+
 // The digest session, or the record that is none, from the place `at` on.
 fn digest_session(body: &[u8], at: usize) -> Session
-    requires { ⌜ at ≤ 352 ⌝ }
-    requires { ⌜ at + 352 ≤ length (now body) ⌝ }
+    requires { ⌜ at ≤ 385 ⌝ }
+    requires { ⌜ at + 385 ≤ length (now body) ⌝ }
 {
     let bits = long(body, at);
     let taken = long(body, at + 8);
@@ -80,9 +99,10 @@ fn digest_session(body: &[u8], at: usize) -> Session
     take(body, at + 16, &mut salt);
     let mut chaining = [0u8; 128];
     take(body, at + 32, &mut chaining);
-    let mut waiting = [0u8; 192];
+    let mut waiting = [0u8; 224];
     take(body, at + 160, &mut waiting);
     Session {
+        mode: mode_of(body[at + 384]),
         bits: bits,
         salt: salt,
         chaining: chaining,
@@ -92,10 +112,10 @@ fn digest_session(body: &[u8], at: usize) -> Session
 }
 
 fn tag_session(body: &[u8]) -> TagSession
-    requires { ⌜ length (now body) ≡ 959 ⌝ }
+    requires { ⌜ length (now body) ≡ 1025 ⌝ }
 {
     let inner = digest_session(body, 0);
-    let outer = digest_session(body, 352);
+    let outer = digest_session(body, 385);
     TagSession {
         inner: inner,
         outer: outer,
@@ -130,31 +150,63 @@ fn put_verdict(line: &mut [u8], at: usize, yes: bool) -> usize
     put(line, at, b" no")
 }
 
-fn put_digest_session(line: &mut [u8], at: usize, session: Session) -> usize
+// Puts a space and the waiting block in hex, all of it or its first 192 bytes.
+fn put_waiting(line: &mut [u8], at: usize, waiting: &[u8], all: bool) -> usize
     ensures { λ r. ⌜ r ≤ length (now (line .exit)) ⌝ }
 {
-    let bits = put_number(line, at, session.bits);
-    let taken = put_number(line, bits, session.taken);
+    if all || waiting.len() < 192 {
+        return put_bytes(line, at, waiting);
+    }
+    put_bytes(line, at, &waiting[0..192])
+}
+
+// Puts a space and the mode's number, where all is printed.
+fn put_mode(line: &mut [u8], at: usize, mode: Mode, all: bool) -> usize
+    requires { ⌜ at ≤ length (now line) ⌝ }
+    ensures { λ r. ⌜ r ≤ length (now (line .exit)) ⌝ }
+{
+    if !all {
+        return at;
+    }
+    put_number(line, at, number_of(mode))
+}
+
+// Puts the three rooms of a digest session, each with a space before it.
+fn put_rooms(line: &mut [u8], at: usize, session: Session, all: bool) -> usize
+    ensures { λ r. ⌜ r ≤ length (now (line .exit)) ⌝ }
+{
     let salt = session.salt;
-    let salted = put_bytes(line, taken, &salt);
+    let salted = put_bytes(line, at, &salt);
     let chaining = session.chaining;
     let chained = put_bytes(line, salted, &chaining);
     let waiting = session.waiting;
-    put_bytes(line, chained, &waiting)
+    put_waiting(line, chained, &waiting, all)
 }
 
-fn put_session(line: &mut [u8], at: usize, session: TagSession) -> usize
+fn put_digest_session(line: &mut [u8], at: usize, session: Session, all: bool) -> usize
+    requires { ⌜ at ≤ length (now line) ⌝ }
     ensures { λ r. ⌜ r ≤ length (now (line .exit)) ⌝ }
 {
-    let inner = put_digest_session(line, at, session.inner);
-    put_digest_session(line, inner, session.outer)
+    let mode = session.mode;
+    let moded = put_mode(line, at, mode, all);
+    let bits = put_number(line, moded, session.bits);
+    let taken = put_number(line, bits, session.taken);
+    put_rooms(line, taken, session, all)
 }
 
-fn put_answer(line: &mut [u8], answer: TagAnswer) -> usize
+fn put_session(line: &mut [u8], at: usize, session: TagSession, all: bool) -> usize
+    requires { ⌜ at ≤ length (now line) ⌝ }
+    ensures { λ r. ⌜ r ≤ length (now (line .exit)) ⌝ }
+{
+    let inner = put_digest_session(line, at, session.inner, all);
+    put_digest_session(line, inner, session.outer, all)
+}
+
+fn put_answer(line: &mut [u8], answer: TagAnswer, all: bool) -> usize
     ensures { λ r. ⌜ r ≤ length (now (line .exit)) ⌝ }
 {
     let refused = put_decimal(line, 0, answer.refusal as u64);
-    put_session(line, refused, answer.session)
+    put_session(line, refused, answer.session, all)
 }
 
 fn print_refused(number: u8) {
@@ -175,27 +227,27 @@ fn print_tag(tag: &[u8], right: bool, other: bool) {
     io::write_all(STDOUT_FILENO, &line[0..end]);
 }
 
-fn print_answer(answer: TagAnswer) {
+fn print_answer(answer: TagAnswer, all: bool) {
     let mut line = [0u8; 2048];
-    let answered = put_answer(&mut line, answer);
+    let answered = put_answer(&mut line, answer, all);
     let end = put(&mut line, answered, b"\n");
     io::write_all(STDOUT_FILENO, &line[0..end]);
 }
 
 // The answer, and the room that was lent.
-fn print_with_room(answer: TagAnswer, room: &[u8]) {
+fn print_with_room(answer: TagAnswer, room: &[u8], all: bool) {
     let mut line = [0u8; 2560];
-    let answered = put_answer(&mut line, answer);
+    let answered = put_answer(&mut line, answer, all);
     let roomed = put_bytes(&mut line, answered, room);
     let end = put(&mut line, roomed, b"\n");
     io::write_all(STDOUT_FILENO, &line[0..end]);
 }
 
-fn print_checking(checking: Checking) {
+fn print_checking(checking: Checking, all: bool) {
     let mut line = [0u8; 2048];
     let refused = put_decimal(&mut line, 0, checking.refusal as u64);
     let said = put_verdict(&mut line, refused, checking.yes);
-    let handed_back = put_session(&mut line, said, checking.session);
+    let handed_back = put_session(&mut line, said, checking.session, all);
     let end = put(&mut line, handed_back, b"\n");
     io::write_all(STDOUT_FILENO, &line[0..end]);
 }
@@ -347,43 +399,47 @@ fn with_key(head: &[u8])
     if head[0] == 1 {
         whole(head, &key[0..key_end], &message[0..message_end], salt_end);
     } else {
-        print_answer(TagSession::open(long(head, 2), &head[24..salt_end], &key[0..key_end]));
+        print_answer(
+            TagSession::open(long(head, 2), &head[24..salt_end], &key[0..key_end]),
+            false,
+        );
     }
 }
 
 // ---- tag sessions
 
 // Lends the room, and prints what is in it afterwards.
-fn read(session: TagSession, room: &mut [u8]) {
+fn read(session: TagSession, room: &mut [u8], all: bool) {
     let answer = session.read(room);
-    print_with_room(answer, room);
+    print_with_room(answer, room, all);
 }
 
 // Lends the first n bytes of a room that is the case's.
-fn read_into(session: TagSession, body: &[u8], n: usize)
-    requires { ⌜ length (now body) ≡ 959 ⌝ }
+fn read_into(session: TagSession, body: &[u8], n: usize, all: bool)
+    requires { ⌜ length (now body) ≡ 1025 ⌝ }
     requires { ⌜ n ≤ 255 ⌝ }
 {
     let mut room = [0u8; 255];
-    take(body, 704, &mut room);
-    read(session, &mut room[0..n]);
+    take(body, 770, &mut room);
+    read(session, &mut room[0..n], all);
 }
 
-// Tasks 3 to 6, on a record that is handed over.
+// Tasks 3 to 9, on a record that is handed over.
 fn with_session(task: u8, n: usize, body: &[u8])
-    requires { ⌜ length (now body) ≡ 959 ⌝ }
+    requires { ⌜ length (now body) ≡ 1025 ⌝ }
     requires { ⌜ n ≤ 255 ⌝ }
 {
     let session = tag_session(body);
-    let end = 704 + n;
-    if task == 3 {
-        print_answer(session.add(&body[704..end]));
-    } else if task == 4 {
-        read_into(session, body, n);
+    let end = 770 + n;
+    let all = 6 < task;
+    if task == 3 || task == 7 {
+        print_answer(session.add(&body[770..end]), all);
+    } else if task == 4 || task == 8 {
+        read_into(session, body, n, all);
     } else if task == 5 {
         print_whether(session.is_session());
     } else {
-        print_checking(session.check(&body[704..end]));
+        print_checking(session.check(&body[770..end]), all);
     }
 }
 
@@ -395,9 +451,9 @@ fn run(head: &[u8]) -> bool
         with_key(head);
         return true;
     }
-    let mut body = [0u8; 959];
+    let mut body = [0u8; 1025];
     let n = io::read_full(STDIN_FILENO, &mut body);
-    if n < 959 {
+    if n < 1025 {
         return false;
     }
     with_session(head[0], wide(head[1]) as usize, &body);

@@ -23,6 +23,9 @@ rounds-by-bytes-requires c κs = search needs
 compress-requires : tie.Need-compress-requires
 compress-requires c κs = search needs
 
+compress-requires-2 : tie.Need-compress-requires-2
+compress-requires-2 c κs = search needs
+
 same-length : tie.Need-same-length
 same-length c = search needs
 
@@ -47,6 +50,12 @@ same-length-4 c = search needs
 returns-4 : tie.Need-returns-4
 returns-4 c = search needs
 
+same-length-5 : tie.Need-same-length-5
+same-length-5 c = search needs
+
+returns-5 : tie.Need-returns-5
+returns-5 c = search needs
+
 pub apply-spec : {M : Type 1} → statement M
 apply-spec =
     tie.close
@@ -57,6 +66,7 @@ apply-spec =
     rounds-back-requires
     rounds-by-bytes-requires
     compress-requires
+    compress-requires-2
     same-length
     returns
     same-length-2
@@ -64,4 +74,6 @@ apply-spec =
     same-length-3
     returns-3
     same-length-4
-    returns-4)
+    returns-4
+    same-length-5
+    returns-5)

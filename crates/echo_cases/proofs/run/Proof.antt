@@ -8,7 +8,7 @@ use Rattle.echo_cases.proofs.run.Tie as tie
 
 abbrev Inv-loop : tie.InvT-loop
 Inv-loop case salt-end a-end block-end a₀ i₀ a i =
-    (length a ≡ 272) × (i ≤ 272) × (15 ≤ salt-end) × (salt-end ≤ 33) × (a-end ≤ 272) × (305 ≤ block-end) × (block-end ≤ 513)
+    (length a ≡ 272) × (i ≤ 272) × (15 ≤ salt-end) × (salt-end ≤ 33) × (a-end ≤ 272) × (305 ≤ block-end) × (block-end ≤ 545)
 
 abbrev μ-loop : tie.MeasureT-loop
 μ-loop case salt-end a-end block-end a₀ i₀ a i = 272 - i

@@ -6,7 +6,7 @@ use Rattle.session_cases.proofs.main.Statement.{statement}
 use Rattle.session_cases.proofs.main.Tie as tie
 
 abbrev Inv-loop : tie.InvT-loop
-Inv-loop case₀ turns₀ case turns = length case ≡ 609
+Inv-loop case₀ turns₀ case turns = length case ≡ 642
 
 abbrev μ-loop : tie.MeasureT-loop
 μ-loop case₀ turns₀ case turns = turns

@@ -8,6 +8,7 @@ mod tests;
 
 use crate::file::File;
 use plain::family;
+use plain::mode::Mode::DoublePipe;
 use record::Case;
 use seeded::Generator;
 
@@ -101,5 +102,5 @@ fn some_salt(generator: &mut Generator, bits: u16, length: u16, piece: u16) -> C
 
 /// Bytes of a block.
 fn block(bits: u16) -> u16 {
-    family::of_bits(bits.into()).block as u16
+    family::of_bits(DoublePipe, bits.into()).block as u16
 }

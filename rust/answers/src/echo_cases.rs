@@ -7,6 +7,7 @@ mod refused;
 mod tests;
 
 use crate::file::File;
+use plain::mode::Mode::DoublePipe;
 use plain::refusal::COUNTER_LIMIT;
 use plain::{digest, family, padding};
 use record::{Case, Kind};
@@ -118,7 +119,10 @@ fn empty_messages(generator: &mut Generator) -> Vec<Case> {
     [224, 256, 384, 512]
         .into_iter()
         .map(|bits| {
-            let (chaining, block) = (digest::initial(bits), padding::pad(bits, b""));
+            let (chaining, block) = (
+                digest::initial(DoublePipe, bits),
+                padding::pad(DoublePipe, bits, b""),
+            );
             let (a, b) = (chaining.len(), block.len());
             let mut case = Case::compress(generator, a as u16, b as u16, 0);
             case.salt[..16].fill(0);

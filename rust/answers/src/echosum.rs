@@ -2,6 +2,7 @@
 //! standard input.
 
 use crate::file::File;
+use plain::mode::Mode::DoublePipe;
 use plain::{digest, hex};
 
 /// The digest length that counts, the last one given.
@@ -61,7 +62,7 @@ fn message(length: usize) -> Vec<u8> {
 /// The digest in hex, two spaces and the name.
 fn line(input: &File) -> String {
     let salt = hex::decode(SALT).try_into().expect("sixteen bytes");
-    let digest = digest::digest(BITS, &salt, &input.bytes);
+    let digest = digest::digest(DoublePipe, BITS, &salt, &input.bytes);
     format!("{}  {}\n", hex::encode(&digest), name(input))
 }
 

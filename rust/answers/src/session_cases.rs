@@ -10,6 +10,7 @@ mod tests;
 
 use crate::file::File;
 use forged::{forged, in_family, last_edge, Lengths, FAMILIES};
+use plain::mode::Mode::DoublePipe;
 use plain::refusal::MESSAGE_LIMIT;
 use plain::session::{Session, BLANK};
 use record::{Case, Task};
@@ -41,14 +42,14 @@ fn cases() -> Vec<Case> {
     }
     cases.extend(bare(&mut generator));
     cases.extend(no_sessions::cases(&mut generator));
-    cases.extend(refused::cases(&mut generator));
+    cases.extend(refused::cases(&mut generator, DoublePipe));
     cases
 }
 
 /// A session from its opening, over two pieces, each with a reading behind it.
 fn from_an_opening(generator: &mut Generator, lengths: &Lengths) -> Vec<Case> {
     let bits = lengths.bits[4];
-    let any = forged(generator, bits, 7);
+    let any = forged(generator, lengths.mode, bits, 7);
     let mut cases = vec![Case::new(generator, Task::Open, 16, any)];
     for piece in [lengths.block as u8 - 3, 25] {
         follow(generator, &mut cases, Task::Add, piece);
@@ -61,7 +62,7 @@ fn from_an_opening(generator: &mut Generator, lengths: &Lengths) -> Vec<Case> {
 /// message, and a reading of that.
 fn to_the_limit(generator: &mut Generator, lengths: &Lengths) -> Vec<Case> {
     let bits = lengths.bits[2];
-    let before = forged(generator, bits, MESSAGE_LIMIT - 110);
+    let before = forged(generator, lengths.mode, bits, MESSAGE_LIMIT - 110);
     let mut cases = vec![Case::new(generator, Task::Add, 110, before)];
     follow(generator, &mut cases, Task::Read, (bits / 8) as u8);
     cases

@@ -38,6 +38,7 @@ fn salted() -> Vec<u8> {
 #[cfg(test)]
 mod tests {
     use super::*;
+    use plain::mode::Mode::DoublePipe;
     use plain::{digest, hex};
 
     const LISTED: &str = "\
@@ -69,7 +70,7 @@ records 3
         assert_eq!(stdin, [&salt[..], &TABLE].concat());
         let salt = stdin[..16].try_into().unwrap();
         let message = hex::decode("01 a20000000007 02 003c 03 0041");
-        let line = hex::encode(&digest::digest(256, &salt, &message)) + "\n";
+        let line = hex::encode(&digest::digest(DoublePipe, 256, &salt, &message)) + "\n";
         assert_eq!(bytes("crates/fingerprint_table/stdout"), line.as_bytes());
     }
 }

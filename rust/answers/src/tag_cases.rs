@@ -17,6 +17,7 @@ use crate::session_cases::forged::{last_edge, Lengths, FAMILIES};
 use checks::tag;
 use forged::{forged, in_family};
 use plain::family;
+use plain::mode::Mode::DoublePipe;
 use plain::refusal::MESSAGE_LIMIT;
 use plain::tag_session::{TagSession, BLANK};
 use record::{Case, Task};
@@ -144,7 +145,7 @@ fn bare(generator: &mut Generator) -> Vec<Case> {
         session.inner.bits = bits;
         session.inner.taken = taken;
         session.outer.bits = bits;
-        session.outer.taken = family::of_bits(bits).block as u64;
+        session.outer.taken = family::of_bits(DoublePipe, bits).block as u64;
         session
     };
     let mut sessions = vec![bare(128, 192), bare(256, MESSAGE_LIMIT), bare(512, 128)];

@@ -1,5 +1,7 @@
 //! What is timed: four implementations of a digest.
 
+use plain::mode::Mode::DoublePipe;
+
 /// An implementation, which digests into the front of a room of 64 bytes. False
 /// where the machine does not have it.
 pub struct Contender {
@@ -20,14 +22,20 @@ pub const CONTENDERS: [Contender; 4] = [
         digest: |bits, message, out| bahmorist::digest(bits, &SALT, message, out).is_ok(),
     },
     Contender {
-        digest: |bits, message, out| put(&plain::digest::digest(bits, &SALT, message), out),
+        digest: |bits, message, out| {
+            put(
+                &plain::digest::digest(DoublePipe, bits, &SALT, message),
+                out,
+            )
+        },
     },
     Contender {
         digest: |bits, message, out| put(&tables::digest(bits, &SALT, message), out),
     },
     Contender {
         digest: |bits, message, out| {
-            third::digest(bits, &SALT, message).is_some_and(|digest| put(&digest, out))
+            third::digest(third::Mode::DoublePipe, bits, &SALT, message)
+                .is_some_and(|digest| put(&digest, out))
         },
     },
 ];

@@ -42,7 +42,7 @@ fn third_agrees() {
             Message::Repeated { times, text } => text.repeat(times),
         };
         let bits = 8 * answer.digest.len() as u64;
-        if let Some(digest) = third::digest(bits, &[0; 16], &message) {
+        if let Some(digest) = third::digest(third::Mode::DoublePipe, bits, &[0; 16], &message) {
             assert_eq!(digest, answer.digest, "line {}", answer.line);
         }
     }

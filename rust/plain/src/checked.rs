@@ -2,6 +2,7 @@
 //! when it did its work. A refused call writes nothing.
 
 use crate::aes::Word;
+use crate::mode::Mode::{self, DoublePipe};
 use crate::refusal::{self, COUNTER_LIMIT, MESSAGE_LIMIT};
 use crate::square::Square;
 use crate::{compression, family, square, table};
@@ -9,19 +10,29 @@ use crate::{compression, family, square, table};
 /// Bytes of a fingerprint.
 pub const FINGERPRINT: usize = 32;
 
-/// The digest of `bits` bits, into the first bits / 8 bytes of `out`; those
-/// behind them stay. Refusals 1, 2, 4, 5.
+/// The digest of `bits` bits in double-pipe, into the first bits / 8 bytes of
+/// `out`; those behind them stay. Refusals 1, 2, 4, 5.
 pub fn digest(bits: u64, salt: &[u8], message: &[u8], out: &mut [u8]) -> u8 {
+    digest_in(DoublePipe.number(), bits, salt, message, out)
+}
+
+/// The same in the mode of a number. Refusals 1, 2, 4, 5, 6.
+pub fn digest_in(mode: u8, bits: u64, salt: &[u8], message: &[u8], out: &mut [u8]) -> u8 {
     let refused = digest_refusal(bits, salt.len(), message.len() as u64, out.len());
-    if refused == refusal::NONE {
-        let digest = crate::digest::digest(bits, &word(salt), message);
-        out[..digest.len()].copy_from_slice(&digest);
+    if refused != refusal::NONE {
+        return refused;
     }
-    refused
+    let Some(mode) = Mode::of_number(mode) else {
+        return refusal::SHAPE;
+    };
+    let digest = crate::digest::digest(mode, bits, &word(salt), message);
+    out[..digest.len()].copy_from_slice(&digest);
+    refusal::NONE
 }
 
 /// The answer of [`digest`] by the sizes alone, so that it can be asked about
-/// messages that no memory holds.
+/// messages that no memory holds. It is that of [`digest_in`] too, where the
+/// number has a mode.
 pub fn digest_refusal(bits: u64, salt: usize, message: u64, room: usize) -> u8 {
     if !family::admitted(bits) {
         refusal::DIGEST_LENGTH
@@ -73,7 +84,7 @@ pub fn hmac_check_refusal(bits: u64, salt: usize, (key, message): (u64, u64)) ->
     if salt != 16 {
         return refusal::SALT;
     }
-    let block = family::of_bits(bits).block as u64;
+    let block = family::of_bits(DoublePipe, bits).block as u64;
     if key > MESSAGE_LIMIT || message > MESSAGE_LIMIT - block {
         return refusal::MESSAGE;
     }
@@ -114,18 +125,26 @@ fn on_square(
     refusal::NONE
 }
 
-/// Takes a block into a lent chaining value. Refusals 2, 6, 7.
+/// Takes a block into a lent chaining value, in double-pipe. Refusals 2, 6, 7.
 pub fn compress(chaining: &mut [u8], block: &[u8], counter: u64, salt: &[u8]) -> u8 {
+    compress_in(DoublePipe.number(), chaining, block, counter, salt)
+}
+
+/// The same in the mode of a number. Refusals 2, 6, 7.
+pub fn compress_in(mode: u8, chaining: &mut [u8], block: &[u8], counter: u64, salt: &[u8]) -> u8 {
     if salt.len() != 16 {
         return refusal::SALT;
     }
-    if family::of_sizes(chaining.len(), block.len()).is_none() {
+    let Some(mode) = Mode::of_number(mode) else {
+        return refusal::SHAPE;
+    };
+    if family::of_sizes(mode, chaining.len(), block.len()).is_none() {
         return refusal::SHAPE;
     }
     if counter > COUNTER_LIMIT {
         return refusal::COUNTER;
     }
-    compression::compress(chaining, block, counter, &word(salt));
+    compression::compress(mode, chaining, block, counter, &word(salt));
     refusal::NONE
 }
 

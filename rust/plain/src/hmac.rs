@@ -1,9 +1,11 @@
 //! Tags of messages under a key: HMAC of FIPS 198-1, over the digest of `bits`
 //! bits under a salt. A block of the digest's family is the standard's B bytes.
+//! The digest is double-pipe.
 
 use crate::aes::Word;
 use crate::digest::digest;
 use crate::family;
+use crate::mode::Mode::DoublePipe;
 
 /// The byte that ipad repeats.
 const IPAD: u8 = 0x36;
@@ -13,14 +15,18 @@ const OPAD: u8 = 0x5c;
 /// The tag of `bits` bits. Panics unless the digest length is admitted.
 pub fn hmac(bits: u64, salt: &Word, key: &[u8], message: &[u8]) -> Vec<u8> {
     let blocks = key_blocks(bits, salt, key);
-    by(|bytes| digest(bits, salt, bytes), &blocks, message)
+    by(
+        |bytes| digest(DoublePipe, bits, salt, bytes),
+        &blocks,
+        message,
+    )
 }
 
 /// What inner and outer digest begin with, each one block: K0 xored with ipad,
 /// and with opad. Panics unless the digest length is admitted.
 pub fn key_blocks(bits: u64, salt: &Word, key: &[u8]) -> KeyBlocks {
-    let block = family::of_bits(bits).block;
-    KeyBlocks::by(|bytes| digest(bits, salt, bytes), block, key)
+    let block = family::of_bits(DoublePipe, bits).block;
+    KeyBlocks::by(|bytes| digest(DoublePipe, bits, salt, bytes), block, key)
 }
 
 /// The two blocks that a key becomes.

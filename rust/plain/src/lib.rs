@@ -1,6 +1,6 @@
-//! ECHO 2.0, tags under a key and the steering tables above it, byte by byte.
+//! ECHO 2.0 in both modes, tags under a key and the steering tables above it, byte by byte.
 //!
-//! ECHO follows Part I, sections 1 to 4, of the ECHO paper; the AES round
+//! ECHO follows Part I, sections 1 to 5, of the ECHO paper; the AES round
 //! follows FIPS 197, and tags follow FIPS 198-1. Nothing here is shared with the
 //! proved library, so where both give one answer, neither has misread the paper
 //! alone.
@@ -19,6 +19,7 @@ pub mod family;
 pub mod field;
 pub mod hex;
 pub mod hmac;
+pub mod mode;
 pub mod padding;
 pub mod refusal;
 pub mod session;

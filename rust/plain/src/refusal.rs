@@ -14,8 +14,8 @@ pub const SESSION: u8 = 3;
 pub const MESSAGE: u8 = 4;
 /// The room for the output is too small.
 pub const ROOM: u8 = 5;
-/// Sizes of no family, no square, a round count of no family, or a reading
-/// place past the table's end.
+/// A number of no mode, sizes of no family of the mode, no square, a round count
+/// of no family, or a reading place past the table's end.
 pub const SHAPE: u8 = 6;
 /// The starting counter is over [`COUNTER_LIMIT`].
 pub const COUNTER: u8 = 7;

@@ -6,36 +6,40 @@ use crate::aes::Word;
 use crate::compression::compress;
 use crate::digest::{counter, initial};
 use crate::family::{self, Family};
+use crate::mode::Mode;
 use crate::padding::padding;
 use crate::refusal::{self, MESSAGE_LIMIT};
 
 /// A record that may be a session.
 #[derive(Debug, Clone, PartialEq, Eq)]
 pub struct Session {
+    pub mode: Mode,
     /// The digest length h.
     pub bits: u64,
     pub salt: Word,
-    /// Room for the chaining value of either family.
+    /// Room for the chaining value of any family.
     pub chaining: [u8; 128],
     /// The number n of message bytes so far.
     pub taken: u64,
-    /// Room for the waiting block of either family.
-    pub waiting: [u8; 192],
+    /// Room for the waiting block of any family.
+    pub waiting: [u8; 224],
 }
 
-/// What a refused opening hands out, all zero, which is no session.
+/// What a refused opening hands out, in double-pipe and all zero, which is no
+/// session.
 pub const BLANK: Session = Session {
+    mode: Mode::DoublePipe,
     bits: 0,
     salt: [0; 16],
     chaining: [0; 128],
     taken: 0,
-    waiting: [0; 192],
+    waiting: [0; 224],
 };
 
 impl Session {
     /// A session without any message byte, and 0; or the blank one and the
     /// refusal number. Refusals 1, 2.
-    pub fn open(bits: u64, salt: &[u8]) -> (u8, Session) {
+    pub fn open(mode: Mode, bits: u64, salt: &[u8]) -> (u8, Session) {
         if !family::admitted(bits) {
             return (refusal::DIGEST_LENGTH, BLANK);
         }
@@ -43,11 +47,12 @@ impl Session {
             return (refusal::SALT, BLANK);
         };
         let mut session = Session {
+            mode,
             bits,
             salt,
             ..BLANK
         };
-        session.keep_chaining(&initial(bits));
+        session.keep_chaining(&initial(mode, bits));
         (refusal::NONE, session)
     }
 
@@ -76,7 +81,7 @@ impl Session {
         let chaining = self.after(blocks, n);
         self.keep_chaining(&chaining);
         self.taken = n;
-        self.waiting = [0; 192];
+        self.waiting = BLANK.waiting;
         self.waiting[..rest.len()].copy_from_slice(rest);
         refusal::NONE
     }
@@ -91,7 +96,7 @@ impl Session {
         if out.len() < size {
             return refusal::ROOM;
         }
-        let padding = padding(self.bits, self.taken);
+        let padding = padding(self.mode, self.bits, self.taken);
         let bytes = [&self.waiting[..self.in_use()], &padding].concat();
         let blocks = bytes.chunks_exact(self.family().block);
         let chaining = self.after(blocks, self.taken);
@@ -107,7 +112,8 @@ impl Session {
         } = *self.family();
         let mut value = self.chaining[..chaining].to_vec();
         for (index, bytes) in (self.taken / block as u64..).zip(blocks) {
-            compress(&mut value, bytes, counter(self.bits, n, index), &self.salt);
+            let counter = counter(self.mode, self.bits, n, index);
+            compress(self.mode, &mut value, bytes, counter, &self.salt);
         }
         value
     }
@@ -123,7 +129,7 @@ impl Session {
     }
 
     fn family(&self) -> &'static Family {
-        family::of_bits(self.bits)
+        family::of_bits(self.mode, self.bits)
     }
 }
 

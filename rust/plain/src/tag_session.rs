@@ -6,6 +6,7 @@
 use crate::aes::Word;
 use crate::family;
 use crate::hmac::{key_blocks, KeyBlocks};
+use crate::mode::Mode::DoublePipe;
 use crate::refusal::{self, MESSAGE_LIMIT};
 use crate::session::{self, Session};
 
@@ -18,7 +19,7 @@ pub struct TagSession {
     pub outer: Session,
 }
 
-/// What a refused opening hands out, all zero, which is no tag session.
+/// What a refused opening hands out, two blank sessions, which is no tag session.
 pub const BLANK: TagSession = TagSession {
     inner: session::BLANK,
     outer: session::BLANK,
@@ -41,16 +42,17 @@ impl TagSession {
         (refusal::NONE, session)
     }
 
-    /// Whether the record is a tag session: both are digest sessions of one
-    /// digest length and one salt, the outer one has taken a block and no more,
-    /// and the inner one a block at least.
+    /// Whether the record is a tag session: both are digest sessions in
+    /// double-pipe of one digest length and one salt, the outer one has taken a
+    /// block and no more, and the inner one a block at least.
     pub fn is_session(&self) -> bool {
         let TagSession { inner, outer } = self;
         if !inner.is_session() || !outer.is_session() {
             return false;
         }
-        let block = family::of_bits(outer.bits).block as u64;
-        inner.bits == outer.bits
+        let block = family::of_bits(DoublePipe, outer.bits).block as u64;
+        [inner.mode, outer.mode] == [DoublePipe; 2]
+            && inner.bits == outer.bits
             && inner.salt == outer.salt
             && inner.taken >= block
             && outer.taken == block
@@ -104,7 +106,7 @@ pub fn opening_refusal(bits: u64, salt: usize, key: u64) -> u8 {
 
 /// A digest session that has taken a block.
 fn begun(bits: u64, salt: &Word, block: &[u8]) -> Session {
-    let (number, mut session) = Session::open(bits, salt);
+    let (number, mut session) = Session::open(DoublePipe, bits, salt);
     assert_eq!([number, session.add(block)], [refusal::NONE; 2]);
     session
 }

@@ -1,5 +1,6 @@
 use super::*;
 use plain::hex;
+use plain::mode::Mode::DoublePipe;
 use seeded::Generator;
 
 /// Starting counters at both ends, and those whose words cross the lower half.
@@ -91,7 +92,7 @@ fn digests_of_every_message_length_are_the_plain_digests() {
 
 fn agrees(bits: u64, generator: &mut Generator, length: usize) {
     let (salt, message) = (generator.bytes(), generator.vector(length));
-    let expected = plain::digest::digest(bits, &salt, &message);
+    let expected = plain::digest::digest(DoublePipe, bits, &salt, &message);
     assert_eq!(digest(bits, &salt, &message), expected);
 }
 

@@ -1,7 +1,7 @@
 //! The question whether the processor has the instruction, and the way in.
 
 use crate::processor::{load, load_all, present, store};
-use crate::{message, processor, square, Word};
+use crate::{message, processor, square, Mode, Word};
 
 pub fn round(word: Word, key: Word) -> Option<Word> {
     // SAFETY: the instruction is there.
@@ -20,7 +20,7 @@ pub fn rounds(square: &mut [u8; 256], count: u64, counter: u64, salt: &Word) -> 
     true
 }
 
-pub fn digest(bits: u64, salt: &Word, message: &[u8]) -> Option<Vec<u8>> {
+pub fn digest(mode: Mode, bits: u64, salt: &Word, message: &[u8]) -> Option<Vec<u8>> {
     // SAFETY: the instruction is there.
-    present().then(|| unsafe { message::digest(bits, *salt, message) })
+    present().then(|| unsafe { message::digest(mode, bits, *salt, message) })
 }

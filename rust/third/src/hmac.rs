@@ -1,6 +1,10 @@
-//! Tags under a key: FIPS 198-1 over digests by the instruction.
+//! Tags under a key: FIPS 198-1 over digests by the instruction, in double-pipe.
 
-use crate::{digest, Word};
+use crate::{Mode, Word};
+
+fn digest(bits: u64, salt: &Word, message: &[u8]) -> Option<Vec<u8>> {
+    crate::digest(Mode::DoublePipe, bits, salt, message)
+}
 
 /// The key as the standard takes it, and how it stands in a block.
 struct Key {

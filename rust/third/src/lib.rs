@@ -20,7 +20,7 @@ mod tests;
 mod by_instruction {
     //! No such instruction is known here.
 
-    use crate::Word;
+    use crate::{Mode, Word};
 
     pub fn round(_: Word, _: Word) -> Option<Word> {
         None
@@ -30,13 +30,22 @@ mod by_instruction {
         false
     }
 
-    pub fn digest(_: u64, _: &Word, _: &[u8]) -> Option<Vec<u8>> {
+    pub fn digest(_: Mode, _: u64, _: &Word, _: &[u8]) -> Option<Vec<u8>> {
         None
     }
 }
 
 /// Sixteen bytes: a word of the square, a key, a salt.
 pub type Word = [u8; 16];
+
+/// How the square is shared out between chaining value and block.
+#[derive(Debug, Clone, Copy, PartialEq, Eq)]
+pub enum Mode {
+    /// ECHO: four chaining words up to 256 bits, and eight above.
+    DoublePipe,
+    /// ECHO-SP: half as many.
+    SinglePipe,
+}
 
 /// SubBytes, ShiftRows, MixColumns, AddRoundKey; none where the processor has
 /// no such instruction.
@@ -52,16 +61,16 @@ pub fn rounds(square: &mut [u8; 256], count: u64, counter: u64, salt: &Word) -> 
 
 /// The digest of `bits` bits; none where the processor has no such instruction.
 /// Panics unless the digest length is a multiple of 8 from 128 to 512.
-pub fn digest(bits: u64, salt: &Word, message: &[u8]) -> Option<Vec<u8>> {
+pub fn digest(mode: Mode, bits: u64, salt: &Word, message: &[u8]) -> Option<Vec<u8>> {
     assert!(
         (128..=512).contains(&bits) && bits.is_multiple_of(8),
         "no digest has {bits} bits"
     );
-    by_instruction::digest(bits, salt, message)
+    by_instruction::digest(mode, bits, salt, message)
 }
 
-/// The tag of `bits` bits under a key; none where the processor has no such
-/// instruction. Panics unless the digest length is a multiple of 8 from 128 to
+/// The tag of `bits` bits under a key, by digests in double-pipe; none where the
+/// processor has no such instruction. Panics unless the digest length is a multiple of 8 from 128 to
 /// 512.
 pub fn hmac(bits: u64, salt: &Word, key: &[u8], message: &[u8]) -> Option<Vec<u8>> {
     hmac::hmac(bits, salt, key, message)

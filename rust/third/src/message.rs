@@ -2,17 +2,23 @@
 
 use crate::processor::{load, load_all, store, xor, Vector};
 use crate::square::rounds;
-use crate::Word;
+use crate::{Mode, Word};
 
-/// The digest of `bits` bits, by the sizes of its family: four chaining words
-/// and blocks of twelve, or eight and eight.
+/// The most bytes behind the whole blocks: two of the longest block, which has
+/// fourteen words.
+const MOST: usize = 2 * 14 * 16;
+
+/// The digest of `bits` bits, by the chaining words of its family. A block is the
+/// rest of the sixteen words. The rounds go by the digest length alone.
 #[inline]
 #[target_feature(enable = "aes")]
-pub fn digest(bits: u64, salt: Word, message: &[u8]) -> Vec<u8> {
-    if bits <= 256 {
-        iterate::<4>(bits, 8, load(salt), message)
-    } else {
-        iterate::<8>(bits, 10, load(salt), message)
+pub fn digest(mode: Mode, bits: u64, salt: Word, message: &[u8]) -> Vec<u8> {
+    let salt = load(salt);
+    match (mode, bits) {
+        (Mode::SinglePipe, ..=256) => iterate::<2>(bits, 8, salt, message),
+        (Mode::SinglePipe, _) => iterate::<4>(bits, 10, salt, message),
+        (Mode::DoublePipe, ..=256) => iterate::<4>(bits, 8, salt, message),
+        (Mode::DoublePipe, _) => iterate::<8>(bits, 10, salt, message),
     }
 }
 
@@ -42,8 +48,8 @@ fn iterate<const C: usize>(bits: u64, count: u64, salt: Vector, message: &[u8]) 
 /// What stands behind the whole blocks, and its size: the bytes that are left,
 /// the byte 80, zeros up to 18 bytes before the end of this block or, where they
 /// don't fit, of one more, and the two lengths.
-fn last_blocks(bits: u64, bit_count: u64, left: &[u8], block_bytes: usize) -> ([u8; 384], usize) {
-    let mut end = [0; 384];
+fn last_blocks(bits: u64, bit_count: u64, left: &[u8], block_bytes: usize) -> ([u8; MOST], usize) {
+    let mut end = [0; MOST];
     let fits = left.len() < block_bytes - 18;
     let size = if fits { block_bytes } else { 2 * block_bytes };
     end[..left.len()].copy_from_slice(left);
@@ -54,7 +60,8 @@ fn last_blocks(bits: u64, bit_count: u64, left: &[u8], block_bytes: usize) -> ([
 }
 
 /// Takes a block into a chaining value: xors the block's words and those of the
-/// finished square into it, each at its place modulo C.
+/// finished square into it, each at its place modulo C. For two words that is v0
+/// with x0 and x2 of section 5.1, and v1 with x1 and x3.
 #[inline]
 #[target_feature(enable = "aes")]
 fn compress<const C: usize>(

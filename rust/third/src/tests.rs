@@ -1,6 +1,7 @@
 use super::*;
 use plain::hex;
 use seeded::Generator;
+use Mode::{DoublePipe, SinglePipe};
 
 /// Starting counters at both ends, and those whose words cross the lower half.
 const COUNTERS: [u64; 6] = [0, 1, 240, 1 << 32, (1 << 32) - 80, u64::MAX - 160];
@@ -66,22 +67,23 @@ fn rounds_by_the_instruction_are_the_plain_rounds() {
 #[test]
 fn published_digests_of_the_empty_message() {
     for (bits, published) in PUBLISHED {
-        if let Some(given) = digest(bits, &[0; 16], b"") {
+        if let Some(given) = digest(DoublePipe, bits, &[0; 16], b"") {
             assert_eq!(hex::encode(&given), published);
         }
     }
 }
 
-/// Every length of a message up to past the second block's end, each time for
-/// one more digest length.
+/// Every length of a message up to past the third block's end, in both modes, for
+/// some digest lengths and each time for one more.
 #[test]
 fn digests_of_every_message_length_are_the_plain_digests() {
     let mut generator = Generator::new(3);
-    for length in 0..=400 {
-        for bits in [
+    for length in 0..=700 {
+        let more = [
             128 + 8 * (length as u64 % 17),
             264 + 8 * (length as u64 % 32),
-        ] {
+        ];
+        for bits in [128, 224, 256, 264, 384, 512].into_iter().chain(more) {
             agrees(bits, &mut generator, length);
         }
     }
@@ -92,16 +94,23 @@ fn digests_of_random_messages_are_the_plain_digests() {
     let mut generator = Generator::new(4);
     for bits in (128..=512).step_by(8) {
         for _ in 0..100 {
-            let length = generator.below(601) as usize;
+            let length = generator.below(1001) as usize;
             agrees(bits, &mut generator, length);
         }
     }
 }
 
+/// The digest in both modes is that of `plain`.
 fn agrees(bits: u64, generator: &mut Generator, length: usize) {
     let (salt, message) = (generator.bytes(), generator.vector(length));
-    if let Some(given) = digest(bits, &salt, &message) {
-        assert_eq!(given, plain::digest::digest(bits, &salt, &message));
+    for (mode, plain) in [
+        (DoublePipe, plain::mode::Mode::DoublePipe),
+        (SinglePipe, plain::mode::Mode::SinglePipe),
+    ] {
+        if let Some(given) = digest(mode, bits, &salt, &message) {
+            let expected = plain::digest::digest(plain, bits, &salt, &message);
+            assert_eq!(given, expected, "{mode:?}, {bits} bits, {length} bytes");
+        }
     }
 }
 
@@ -133,5 +142,5 @@ fn other_lengths_of_a_tag_are_a_mistake_of_the_caller() {
 #[test]
 #[should_panic(expected = "no digest has 260 bits")]
 fn other_digest_lengths_are_a_mistake_of_the_caller() {
-    digest(260, &[0; 16], b"");
+    digest(SinglePipe, 260, &[0; 16], b"");
 }

@@ -47,7 +47,7 @@ fn third(case: &Case) -> Option<Outcome> {
     };
     match case.routine {
         Routine::Digest { bits } => {
-            let digest = third::digest(bits, salt, &case.input)?;
+            let digest = third::digest(third::Mode::DoublePipe, bits, salt, &case.input)?;
             third.lent[..digest.len()].copy_from_slice(&digest);
         }
         Routine::Hmac { bits } => {

@@ -4,6 +4,7 @@
 
 use super::{upper, FOUR, NOT_PUBLISHED};
 use plain::digest;
+use plain::mode::Mode::DoublePipe;
 use seeded::Generator;
 
 const HEADER: &str = "\
@@ -28,7 +29,7 @@ fn part(bits: u64, seed: Vec<u8>) -> String {
     for j in 0..ANSWERS {
         let mut digest = Vec::new();
         for _ in 0..STEPS {
-            digest = digest::digest(bits, &[0; 16], &message);
+            digest = digest::digest(DoublePipe, bits, &[0; 16], &message);
             message = [&digest[..], &message[..SEED - digest.len()]].concat();
         }
         text += &format!("\nj = {j}\nMD = {}\n", upper(&digest));

@@ -3,6 +3,7 @@
 
 use super::{upper, FOUR, NOT_PUBLISHED};
 use plain::digest;
+use plain::mode::Mode::DoublePipe;
 
 const HEADER: &str = "\
 # ECHO 2.0, double-pipe: digests under the all-zero salt of a text so many times.
@@ -19,7 +20,7 @@ pub fn file() -> String {
 }
 
 fn part(bits: u64) -> String {
-    let digest = digest::digest(bits, &[0; 16], TEXT.repeat(TIMES).as_bytes());
+    let digest = digest::digest(DoublePipe, bits, &[0; 16], TEXT.repeat(TIMES).as_bytes());
     let digest = upper(&digest);
     format!("\n# {NOT_PUBLISHED}\nRepeat = {TIMES}\nText = {TEXT}\nMD = {digest}\n")
 }

@@ -1,12 +1,14 @@
 //! Sessions that no opening made.
 
 use plain::family;
+use plain::mode::Mode;
 use plain::refusal::MESSAGE_LIMIT;
-use plain::session::Session;
+use plain::session::{Session, BLANK};
 use seeded::Generator;
 
 /// Digest lengths of a family.
 pub struct Lengths {
+    pub mode: Mode,
     /// Bytes of a block.
     pub block: u64,
     /// Some of them, with the shortest and the longest.
@@ -15,10 +17,12 @@ pub struct Lengths {
 
 pub const FAMILIES: [Lengths; 2] = [
     Lengths {
+        mode: Mode::DoublePipe,
         block: 192,
         bits: [128, 256, 224, 136, 160, 248],
     },
     Lengths {
+        mode: Mode::DoublePipe,
         block: 128,
         bits: [264, 512, 384, 272, 448, 504],
     },
@@ -31,33 +35,39 @@ pub fn last_edge(block: u64) -> u64 {
 
 /// A session with these numbers and everything else from the generator, but for
 /// the room that is not in use.
-pub fn forged(generator: &mut Generator, bits: u64, taken: u64) -> Session {
-    let family = family::of_bits(bits);
+pub fn forged(generator: &mut Generator, mode: Mode, bits: u64, taken: u64) -> Session {
+    let family = family::of_bits(mode, bits);
     let mut session = Session {
+        mode,
         bits,
         salt: generator.bytes(),
         chaining: generator.bytes(),
         taken,
-        waiting: generator.bytes(),
+        ..BLANK
     };
+    // As many as the longest block of the mode has, whatever is in use.
+    let waiting = generator.vector(family::of_mode(mode)[0].block);
+    let in_use = (taken % family.block as u64) as usize;
+    session.waiting[..in_use].copy_from_slice(&waiting[..in_use]);
     session.chaining[family.chaining..].fill(0);
-    session.waiting[(taken % family.block as u64) as usize..].fill(0);
     session
 }
 
 /// A session of a family, whose digest lengths come in turn.
 pub fn in_family(generator: &mut Generator, lengths: &Lengths, turn: usize, taken: u64) -> Session {
-    forged(generator, lengths.bits[turn % lengths.bits.len()], taken)
+    let bits = lengths.bits[turn % lengths.bits.len()];
+    forged(generator, lengths.mode, bits, taken)
 }
 
 /// A session with something changed.
 pub fn changed(
     generator: &mut Generator,
+    mode: Mode,
     bits: u64,
     taken: u64,
     change: impl FnOnce(&mut Session),
 ) -> Session {
-    let mut session = forged(generator, bits, taken);
+    let mut session = forged(generator, mode, bits, taken);
     change(&mut session);
     session
 }

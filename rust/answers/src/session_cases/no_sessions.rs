@@ -2,6 +2,7 @@
 
 use super::forged::{changed, forged};
 use super::record::{Case, Task};
+use plain::mode::Mode::DoublePipe;
 use plain::refusal::MESSAGE_LIMIT;
 use plain::session::{Session, BLANK};
 use seeded::Generator;
@@ -43,22 +44,24 @@ pub fn records(generator: &mut Generator) -> Vec<Session> {
     let mut records = vec![BLANK];
     for bits in BITS {
         // In either family nothing else is wrong.
-        records.push(changed(generator, 256, 5, |session| session.bits = bits));
+        records.push(changed(generator, DoublePipe, 256, 5, |session| {
+            session.bits = bits
+        }));
     }
     for bits in [256, 512] {
         for taken in [MESSAGE_LIMIT + 1, u64::MAX] {
-            records.push(forged(generator, bits, taken));
+            records.push(forged(generator, DoublePipe, bits, taken));
         }
     }
     for (bits, taken, place) in WAITING {
         let byte = some_byte(generator);
-        records.push(changed(generator, bits, taken, |session| {
+        records.push(changed(generator, DoublePipe, bits, taken, |session| {
             session.waiting[place] = byte;
         }));
     }
     for place in [64, 127] {
         let byte = some_byte(generator);
-        records.push(changed(generator, 256, 5, |session| {
+        records.push(changed(generator, DoublePipe, 256, 5, |session| {
             session.chaining[place] = byte;
         }));
     }

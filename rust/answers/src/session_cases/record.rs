@@ -1,4 +1,4 @@
-//! One case of `session_cases`: its record of 609 bytes and the line it has to
+//! One case of `session_cases`: its record of 642 bytes and the line it has to
 //! give.
 
 use plain::hex;
@@ -6,7 +6,7 @@ use plain::session::Session;
 use seeded::Generator;
 
 /// Bytes of a record.
-pub const RECORD: usize = 609;
+pub const RECORD: usize = 642;
 
 /// Bytes of the room for a piece or the output.
 pub const ROOM: usize = 255;
@@ -77,7 +77,8 @@ impl Case {
             Task::IsSession => {}
             Task::Open => {
                 let salt = &self.session.salt[..length.min(16)];
-                (answer.number, answer.session) = Session::open(self.session.bits, salt);
+                let Session { mode, bits, .. } = self.session;
+                (answer.number, answer.session) = Session::open(mode, bits, salt);
             }
         }
         answer
@@ -102,7 +103,7 @@ fn handed_back(answer: &Answer) -> String {
     format!("{} {}", answer.number, fields(&answer.session))
 }
 
-/// The 352 bytes of a session within a record.
+/// The 385 bytes of a session within a record.
 pub fn bytes(session: &Session) -> Vec<u8> {
     let mut bytes = Vec::new();
     bytes.extend(session.bits.to_le_bytes());
@@ -110,10 +111,12 @@ pub fn bytes(session: &Session) -> Vec<u8> {
     bytes.extend(session.salt);
     bytes.extend(session.chaining);
     bytes.extend(session.waiting);
+    bytes.push(session.mode.number());
     bytes
 }
 
-/// The five fields of a session within a line.
+/// The five fields of a session within a line: without the mode, and of the
+/// waiting block's room as much as a block takes in double-pipe.
 pub fn fields(session: &Session) -> String {
     let Session {
         bits,
@@ -121,7 +124,8 @@ pub fn fields(session: &Session) -> String {
         chaining,
         taken,
         waiting,
+        ..
     } = session;
-    let bytes = [&salt[..], chaining, waiting].map(hex::encode).join(" ");
-    format!("{bits} {taken} {bytes}")
+    let bytes = [&salt[..], chaining, &waiting[..192]].map(hex::encode);
+    format!("{bits} {taken} {}", bytes.join(" "))
 }

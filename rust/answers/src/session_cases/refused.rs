@@ -3,6 +3,7 @@
 
 use super::forged::{changed, forged, last_edge};
 use super::record::{Case, Task};
+use plain::mode::Mode;
 use plain::refusal::MESSAGE_LIMIT;
 use plain::session::Session;
 use seeded::Generator;
@@ -10,18 +11,18 @@ use seeded::Generator;
 /// What makes a session none.
 type Change = fn(&mut Session);
 
-pub fn cases(generator: &mut Generator) -> Vec<Case> {
-    let mut cases = openings(generator);
-    cases.extend(too_long(generator));
-    cases.extend(too_little_room(generator));
-    cases.extend(no_session_and_too_long(generator));
-    cases.extend(no_session_and_too_little_room(generator));
+pub fn cases(generator: &mut Generator, mode: Mode) -> Vec<Case> {
+    let mut cases = openings(generator, mode);
+    cases.extend(too_long(generator, mode));
+    cases.extend(too_little_room(generator, mode));
+    cases.extend(no_session_and_too_long(generator, mode));
+    cases.extend(no_session_and_too_little_room(generator, mode));
     cases
 }
 
 /// Numbers 1 and 2, and one opening that is done: its salt is all of the room,
 /// since there is no more.
-fn openings(generator: &mut Generator) -> Vec<Case> {
+fn openings(generator: &mut Generator, mode: Mode) -> Vec<Case> {
     let openings = [
         (120, 16),
         (520, 15),
@@ -32,7 +33,7 @@ fn openings(generator: &mut Generator) -> Vec<Case> {
     ];
     openings
         .map(|(bits, salt)| {
-            let session = changed(generator, 128, 7, |session| session.bits = bits);
+            let session = changed(generator, mode, 128, 7, |session| session.bits = bits);
             Case::new(generator, Task::Open, salt, session)
         })
         .into()
@@ -40,7 +41,7 @@ fn openings(generator: &mut Generator) -> Vec<Case> {
 
 /// Number 4 alone, by one byte and by more, where the piece would fill a block
 /// and where not.
-fn too_long(generator: &mut Generator) -> Vec<Case> {
+fn too_long(generator: &mut Generator, mode: Mode) -> Vec<Case> {
     let pieces = [
         (256, MESSAGE_LIMIT, 1),
         (128, MESSAGE_LIMIT - 254, 255),
@@ -51,14 +52,14 @@ fn too_long(generator: &mut Generator) -> Vec<Case> {
     ];
     pieces
         .map(|(bits, taken, piece)| {
-            let session = forged(generator, bits, taken);
+            let session = forged(generator, mode, bits, taken);
             Case::new(generator, Task::Add, piece, session)
         })
         .into()
 }
 
 /// Number 5 alone, without a room, and with one that is a byte too small.
-fn too_little_room(generator: &mut Generator) -> Vec<Case> {
+fn too_little_room(generator: &mut Generator, mode: Mode) -> Vec<Case> {
     let rooms = [
         (128, 0, 0),
         (128, 191, 15),
@@ -69,14 +70,14 @@ fn too_little_room(generator: &mut Generator) -> Vec<Case> {
     ];
     rooms
         .map(|(bits, taken, room)| {
-            let session = forged(generator, bits, taken);
+            let session = forged(generator, mode, bits, taken);
             Case::new(generator, Task::Read, room, session)
         })
         .into()
 }
 
 /// Numbers 3 and 4. In the second the number of message bytes would wrap.
-fn no_session_and_too_long(generator: &mut Generator) -> Vec<Case> {
+fn no_session_and_too_long(generator: &mut Generator, mode: Mode) -> Vec<Case> {
     let changes: [(u64, Change, u8); 5] = [
         (256, |session| session.taken += 1, 1),
         (512, |session| session.taken = u64::MAX, 255),
@@ -86,14 +87,14 @@ fn no_session_and_too_long(generator: &mut Generator) -> Vec<Case> {
     ];
     changes
         .map(|(bits, change, piece)| {
-            let session = changed(generator, bits, MESSAGE_LIMIT, change);
+            let session = changed(generator, mode, bits, MESSAGE_LIMIT, change);
             Case::new(generator, Task::Add, piece, session)
         })
         .into()
 }
 
 /// Numbers 3 and 5. In the third no room would be enough.
-fn no_session_and_too_little_room(generator: &mut Generator) -> Vec<Case> {
+fn no_session_and_too_little_room(generator: &mut Generator, mode: Mode) -> Vec<Case> {
     let changes: [(u64, Change, u8); 5] = [
         (256, |session| session.taken = MESSAGE_LIMIT + 1, 31),
         (512, |session| session.bits = 520, 64),
@@ -103,7 +104,7 @@ fn no_session_and_too_little_room(generator: &mut Generator) -> Vec<Case> {
     ];
     changes
         .map(|(bits, change, room)| {
-            let session = changed(generator, bits, 5, change);
+            let session = changed(generator, mode, bits, 5, change);
             Case::new(generator, Task::Read, room, session)
         })
         .into()

@@ -1,6 +1,7 @@
 use super::record::{RECORD, ROOM};
 use super::*;
 use plain::digest;
+use plain::mode::Mode;
 use std::collections::HashSet;
 
 /// The most bytes of a message: 2^61 - 21.
@@ -14,7 +15,7 @@ fn reasons(session: &Session) -> Vec<&'static str> {
     let reasons = [
         ("bits", !(16..=64).any(|bytes| 8 * bytes == session.bits)),
         ("taken", session.taken > LIMIT),
-        ("waiting", (0..192).any(waits)),
+        ("waiting", (0..224).any(waits)),
         ("chaining", short && session.chaining[64..] != [0; 64]),
     ];
     holding(reasons)
@@ -56,11 +57,12 @@ fn records_have_their_layout() {
         task: Task::Read,
         length: 3,
         session: Session {
+            mode: Mode::SinglePipe,
             bits: 0x0b0a_0908_0706_0504,
             salt: [0x14; 16],
             chaining: [0x15; 128],
             taken: 0x1312_1110_0f0e_0d0c,
-            waiting: [0x16; 192],
+            waiting: [0x16; 224],
         },
         room: [0x17; ROOM],
     };
@@ -71,7 +73,7 @@ fn records_have_their_layout() {
         waiting,
         ..
     } = &case.session;
-    let parts = [&numbers[..], salt, chaining, waiting, &case.room];
+    let parts = [&numbers[..], salt, chaining, waiting, &[1], &case.room];
     assert_eq!(case.record(), parts.concat());
     assert_eq!(case.record().len(), RECORD);
 }
@@ -168,7 +170,7 @@ fn each_record_is_no_session_for_one_reason() {
 
 #[test]
 fn every_pair_of_refusals_is_met() {
-    let pairs: Vec<Vec<u8>> = refused::cases(&mut Generator::new(5))
+    let pairs: Vec<Vec<u8>> = refused::cases(&mut Generator::new(5), DoublePipe)
         .iter()
         .map(refusals)
         .filter(|numbers| numbers.len() > 1)
@@ -255,7 +257,7 @@ fn from_an_opening_the_readings_are_digests() {
         let mut message = Vec::new();
         for pair in cases[1..].chunks(2) {
             message.extend(&pair[0].room[..usize::from(pair[0].length)]);
-            let expected = digest::digest(bits, &salt, &message);
+            let expected = digest::digest(DoublePipe, bits, &salt, &message);
             assert_eq!(pair[1].answer().room[..expected.len()], expected);
         }
         assert_eq!(message.len() as u64, lengths.block + 22);

@@ -1,5 +1,6 @@
 use super::record::{FILL, HEADER, ROOM};
 use super::*;
+use plain::mode::Mode::DoublePipe;
 use plain::{digest, hex, table};
 use std::collections::HashSet;
 
@@ -71,7 +72,7 @@ fn lines_of_counting() {
 #[test]
 fn lines_of_fingerprints() {
     let case = plain_case(Task::Fingerprint, 9, "02 003c 04 00000001");
-    let digest = digest::digest(256, &case.salt, &case.table);
+    let digest = digest::digest(DoublePipe, 256, &case.salt, &case.table);
     let room = hex::encode(&digest) + "a5a5a5a5a5a5a5a5";
     assert_eq!(case.line(), format!("0 0 {room}\n"));
     let untouched = "a5".repeat(40);

@@ -2,6 +2,7 @@
 
 use crate::session_cases::forged::{self, Lengths};
 use plain::family;
+use plain::mode::Mode::DoublePipe;
 use plain::session::Session;
 use plain::tag_session::TagSession;
 use seeded::Generator;
@@ -13,16 +14,16 @@ pub type Change = fn(&mut TagSession);
 /// session. Everything else is from the generator, but for the room that is not
 /// in use, and the outer session's number of bytes.
 pub fn forged(generator: &mut Generator, bits: u64, taken: u64) -> TagSession {
-    let block = family::of_bits(bits).block as u64;
+    let block = family::of_bits(DoublePipe, bits).block as u64;
     with_outer(generator, bits, taken, block)
 }
 
 /// The same with any number of bytes in the outer session.
 pub fn with_outer(generator: &mut Generator, bits: u64, inner: u64, outer: u64) -> TagSession {
-    let inner = forged::forged(generator, bits, inner);
+    let inner = forged::forged(generator, DoublePipe, bits, inner);
     let outer = Session {
         salt: inner.salt,
-        ..forged::forged(generator, bits, outer)
+        ..forged::forged(generator, DoublePipe, bits, outer)
     };
     TagSession { inner, outer }
 }

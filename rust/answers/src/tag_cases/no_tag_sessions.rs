@@ -4,6 +4,7 @@
 use super::forged::{changed, forged, with_outer, Change};
 use super::record::{Case, Task};
 use crate::session_cases::forged::forged as digest_session;
+use plain::mode::Mode::DoublePipe;
 use plain::refusal::MESSAGE_LIMIT;
 use plain::session::Session;
 use plain::tag_session::{TagSession, BLANK};
@@ -79,10 +80,10 @@ fn digest_lengths(generator: &mut Generator) -> Vec<TagSession> {
         changed(generator, 256, 197, |session| session.outer.bits = 248),
         changed(generator, 264, 133, |session| session.outer.bits = 512),
     ];
-    let inner = digest_session(generator, 256, 192);
+    let inner = digest_session(generator, DoublePipe, 256, 192);
     let outer = Session {
         salt: inner.salt,
-        ..digest_session(generator, 264, 128)
+        ..digest_session(generator, DoublePipe, 264, 128)
     };
     records.push(TagSession { inner, outer });
     records

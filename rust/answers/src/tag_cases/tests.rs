@@ -6,13 +6,14 @@ use super::record::{On, HEADER, MOST, ROOM};
 use super::*;
 use plain::digest::digest;
 use plain::hex;
+use plain::mode::Mode::SinglePipe;
 use plain::session::{self, Session};
 
 /// The most bytes of a message: 2^61 - 21.
 const LIMIT: u64 = 2_305_843_009_213_693_931;
 
 /// Bytes of a record on a tag session.
-const RECORD: usize = HEADER + 2 * 352 + ROOM;
+const RECORD: usize = HEADER + 2 * 385 + ROOM;
 
 fn admitted(bits: u64) -> bool {
     (16..=64).any(|bytes| 8 * bytes == bits)
@@ -42,7 +43,7 @@ fn digest_reasons(session: &Session) -> Vec<&'static str> {
     let waits = |place: usize| session.waiting[place] != 0 && place as u64 >= in_use;
     holding([
         ("limit", session.taken > LIMIT),
-        ("waiting", (0..192).any(waits)),
+        ("waiting", (0..224).any(waits)),
         ("chaining", short && session.chaining[64..] != [0; 64]),
     ])
 }
@@ -88,7 +89,7 @@ fn refusals(case: &Case) -> Vec<u8> {
 /// The tag of a message by two digests, each joined here.
 fn by_hand(bits: u64, salt: &[u8; 16], key: &[u8], message: &[u8]) -> Vec<u8> {
     let b = block(bits) as usize;
-    let digested = digest(bits, salt, key);
+    let digested = digest(DoublePipe, bits, salt, key);
     let key = if key.len() > b { &digested } else { key };
     let (mut inner, mut outer) = (vec![0x36; b], vec![0x5c; b]);
     for (place, byte) in key.iter().enumerate() {
@@ -96,19 +97,20 @@ fn by_hand(bits: u64, salt: &[u8; 16], key: &[u8], message: &[u8]) -> Vec<u8> {
         outer[place] ^= byte;
     }
     inner.extend(message);
-    outer.extend(digest(bits, salt, &inner));
-    digest(bits, salt, &outer)
+    outer.extend(digest(DoublePipe, bits, salt, &inner));
+    digest(DoublePipe, bits, salt, &outer)
 }
 
 /// A digest session whose every byte in a record is the one after the last.
 fn counted(first: u8) -> Session {
     let number = |first: u8| u64::from_le_bytes(std::array::from_fn(|i| first + i as u8));
     Session {
+        mode: SinglePipe,
         bits: number(first),
         taken: number(first + 8),
         salt: std::array::from_fn(|i| first + 16 + i as u8),
         chaining: [first + 32; 128],
-        waiting: [first + 33; 192],
+        waiting: [first + 33; 224],
     }
 }
 
@@ -143,7 +145,8 @@ fn records_have_their_layout() {
     for first in [50, 100] {
         record.extend(first..first + 32);
         record.extend([first + 32; 128]);
-        record.extend([first + 33; 192]);
+        record.extend([first + 33; 224]);
+        record.push(1);
     }
     record.extend([0xee; 255]);
     assert_eq!(case.record(), record);
@@ -231,6 +234,6 @@ fn the_files_hold_every_case() {
     let files = files();
     let bytes = HEADER * (cases.len() - on_sessions) + RECORD * on_sessions;
     assert_eq!(files[0].bytes.len(), bytes);
-    assert!(bytes < 280_000);
+    assert!(bytes < 300_000);
     assert_eq!(files[1].lines(), cases.len());
 }

@@ -2,6 +2,7 @@
 
 use super::record::{Case, Task};
 use plain::family;
+use plain::mode::Mode::DoublePipe;
 use seeded::Generator;
 
 /// How many keys of different sizes each digest length has.
@@ -28,7 +29,7 @@ pub fn cases(generator: &mut Generator) -> Vec<Case> {
 pub fn done(generator: &mut Generator) -> Vec<Case> {
     let mut cases = Vec::new();
     for bits in (128..=512).step_by(8) {
-        let b = family::of_bits(bits).block as u16;
+        let b = family::of_bits(DoublePipe, bits).block as u16;
         for key in keys(b) {
             for _ in 0..MESSAGES {
                 let turn = cases.len() / CUTS;
@@ -54,7 +55,7 @@ pub fn done(generator: &mut Generator) -> Vec<Case> {
 pub fn every_piece(generator: &mut Generator) -> Vec<Case> {
     let mut cases = Vec::new();
     for bits in [256, 512] {
-        let b = family::of_bits(bits).block as u16;
+        let b = family::of_bits(DoublePipe, bits).block as u16;
         let message = Case {
             message_length: b + 9,
             ..some_salt(generator, bits, 20)

@@ -1,4 +1,5 @@
 use super::*;
+use crate::mode::MODES;
 
 const SALT: [u8; 16] = [9; 16];
 
@@ -6,7 +7,10 @@ const SALT: [u8; 16] = [9; 16];
 fn digest_fills_only_its_room() {
     let mut out = [0xee; 40];
     assert_eq!(digest(256, &SALT, b"abc", &mut out), 0);
-    assert_eq!(out[..32], crate::digest::digest(256, &SALT, b"abc"));
+    assert_eq!(
+        out[..32],
+        crate::digest::digest(DoublePipe, 256, &SALT, b"abc")
+    );
     assert_eq!(out[32..], [0xee; 8]);
 }
 
@@ -25,6 +29,42 @@ fn digest_refuses_the_lowest_number_and_writes_nothing() {
     ] {
         let refused = digest(bits, &[9; 17][..salt], b"abc", &mut out[..room]);
         assert_eq!(refused, number);
+    }
+    assert_eq!(out, [0xee; 32]);
+}
+
+#[test]
+fn digest_in_a_mode() {
+    for mode in MODES {
+        for bits in [128, 256, 264, 512] {
+            let size = bits as usize / 8;
+            let mut out = [0xee; 80];
+            let number = digest_in(mode.number(), bits, &SALT, b"abc", &mut out);
+            assert_eq!(number, 0);
+            let expected = crate::digest::digest(mode, bits, &SALT, b"abc");
+            assert_eq!(out[..size], expected);
+            assert_eq!(out[size..], [0xee; 80][size..]);
+        }
+    }
+}
+
+/// The number of a mode is asked about last.
+#[test]
+fn a_number_of_no_mode_is_refused_where_nothing_else_is() {
+    let mut out = [0xee; 32];
+    for (bits, salt, room, number) in [
+        (256, 16, 32, 6),
+        (128, 16, 32, 6),
+        (256, 16, 31, 5),
+        (256, 15, 32, 2),
+        (257, 16, 32, 1),
+        (120, 15, 0, 1),
+    ] {
+        for mode in [2, 3, 128, 255] {
+            let salt = &[9; 17][..salt];
+            let refused = digest_in(mode, bits, salt, b"abc", &mut out[..room]);
+            assert_eq!(refused, number);
+        }
     }
     assert_eq!(out, [0xee; 32]);
 }
@@ -177,11 +217,65 @@ fn compress_refuses_the_lowest_number_and_writes_nothing() {
 }
 
 #[test]
+fn compress_in_a_mode() {
+    for mode in MODES {
+        for family in family::of_mode(mode) {
+            let (a, b) = (family.chaining, family.block);
+            let (mut chaining, block) = (vec![0xee; a], vec![3; b]);
+            let mut expected = chaining.clone();
+            compression::compress(mode, &mut expected, &block, COUNTER_LIMIT, &SALT);
+            let number = mode.number();
+            let counter = COUNTER_LIMIT;
+            let refused = compress_in(number, &mut chaining, &block, counter, &SALT);
+            assert_eq!(refused, 0);
+            assert_eq!(chaining, expected);
+        }
+    }
+}
+
+/// Sizes of chaining value and block, and the modes that take them.
+#[test]
+fn compress_refuses_the_sizes_of_the_other_mode() {
+    let (mut chaining, block) = ([0xee; 128], [3; 256]);
+    for (a, b, modes) in [
+        (64, 192, &[0, 1][..]),
+        (128, 128, &[0]),
+        (32, 224, &[1]),
+        (64, 128, &[]),
+        (32, 192, &[]),
+        (31, 224, &[]),
+        (32, 225, &[]),
+        (33, 223, &[]),
+        (0, 0, &[]),
+    ] {
+        for mode in [0, 1, 2, 255] {
+            let taken = modes.contains(&mode);
+            let before = chaining;
+            let lent = &mut chaining[..a];
+            let number = compress_in(mode, lent, &block[..b], 7, &SALT);
+            assert_eq!(number, if taken { 0 } else { 6 });
+            assert_eq!(chaining != before, taken);
+            // The lowest number is given, and nothing changes.
+            let (before, lent) = (chaining, &mut chaining[..a]);
+            let number = compress_in(mode, lent, &block[..b], u64::MAX, &SALT);
+            assert_eq!(number, if taken { 7 } else { 6 });
+            let lent = &mut chaining[..a];
+            let number = compress_in(mode, lent, &block[..b], u64::MAX, &SALT[1..]);
+            assert_eq!(number, 2);
+            assert_eq!(chaining, before);
+        }
+    }
+}
+
+#[test]
 fn fingerprint_is_the_digest_of_the_whole_table() {
     let mut out = [0xee; 33];
     let table = [2, 0, 0x3c, 3, 0, 0x41];
     assert_eq!(fingerprint(&SALT, &table, &mut out), (0, 0));
-    assert_eq!(out[..32], crate::digest::digest(256, &SALT, &table));
+    assert_eq!(
+        out[..32],
+        crate::digest::digest(DoublePipe, 256, &SALT, &table)
+    );
     assert_eq!(out[32], 0xee);
 }
 

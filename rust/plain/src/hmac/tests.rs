@@ -69,8 +69,8 @@ fn a_tag_is_two_digests() {
                     outer[place] ^= key[place];
                 }
                 inner.extend(message);
-                outer.extend(digest(bits, &SALT, &inner));
-                let tag = digest(bits, &SALT, &outer);
+                outer.extend(digest(DoublePipe, bits, &SALT, &inner));
+                let tag = digest(DoublePipe, bits, &SALT, &outer);
                 assert_eq!(hmac(bits, &SALT, &key, message), tag);
                 assert_eq!(tag.len() as u64, bits / 8);
             }
@@ -100,12 +100,12 @@ fn only_a_key_that_is_longer_than_a_block_is_digested() {
         let tag = |key: &[u8]| hmac(bits, &SALT, key, b"abc");
         for length in [b + 1, b + 2, 1000] {
             let key = bytes(length);
-            assert_eq!(tag(&key), tag(&digest(bits, &SALT, &key)));
+            assert_eq!(tag(&key), tag(&digest(DoublePipe, bits, &SALT, &key)));
             assert_ne!(tag(&key), tag(&key[..b]));
         }
         for length in [b - 1, b] {
             let key = bytes(length);
-            assert_ne!(tag(&key), tag(&digest(bits, &SALT, &key)));
+            assert_ne!(tag(&key), tag(&digest(DoublePipe, bits, &SALT, &key)));
         }
     }
 }

@@ -1,5 +1,6 @@
 use super::*;
 use crate::digest::digest;
+use crate::mode::Mode::DoublePipe;
 
 /// The lister's example.
 const EXAMPLE: &str = "01 a2 00 00 00 00 07 02 00 3c 03 00 41";
@@ -87,9 +88,9 @@ fn the_longest_table() {
 fn fingerprint_program_prints_the_digest_of_the_whole_table() {
     let salt: [u8; 16] = std::array::from_fn(|i| i as u8);
     let input = [&salt[..], &hex::decode(EXAMPLE)].concat();
-    let expected = hex::encode(&digest(256, &salt, &input[16..]));
+    let expected = hex::encode(&digest(DoublePipe, 256, &salt, &input[16..]));
     assert_eq!(fingerprint_output(&input), expected + "\n");
-    let of_nothing = hex::encode(&digest(256, &salt, b"")) + "\n";
+    let of_nothing = hex::encode(&digest(DoublePipe, 256, &salt, b"")) + "\n";
     assert_eq!(fingerprint_output(&salt), of_nothing);
 }
 

@@ -2,6 +2,7 @@ use super::*;
 use crate::compression::compress;
 use crate::digest::{digest, initial};
 use crate::hmac::hmac;
+use crate::mode::Mode::{self, SinglePipe};
 
 const SALT: Word = [9; 16];
 const LIMIT: u64 = 2_305_843_009_213_693_931;
@@ -121,12 +122,12 @@ fn an_opening_takes_a_block_into_both_sessions() {
         ] {
             let mut taken = vec![rest; b];
             taken[..5].fill(first);
-            let mut chaining = initial(bits);
-            compress(&mut chaining, &taken, 8 * b as u64, &SALT);
+            let mut chaining = initial(DoublePipe, bits);
+            compress(DoublePipe, &mut chaining, &taken, 8 * b as u64, &SALT);
             assert_eq!(part.chaining[..256 - b], chaining);
             assert_eq!(part.chaining[256 - b..], [0; 128][..b - 128]);
             assert_eq!((part.bits, part.salt), (bits, SALT));
-            assert_eq!((part.taken, part.waiting), (b as u64, [0; 192]));
+            assert_eq!((part.taken, part.waiting), (b as u64, [0; 224]));
         }
     }
 }
@@ -138,12 +139,12 @@ fn a_key_that_is_longer_than_a_block_opens_as_its_digest() {
         let long = bytes(b + 1);
         assert_eq!(
             opened(bits, &long),
-            opened(bits, &digest(bits, &SALT, &long))
+            opened(bits, &digest(DoublePipe, bits, &SALT, &long))
         );
         let whole = &long[..b];
         assert_ne!(
             opened(bits, whole),
-            opened(bits, &digest(bits, &SALT, whole))
+            opened(bits, &digest(DoublePipe, bits, &SALT, whole))
         );
     }
 }
@@ -164,6 +165,8 @@ fn what_is_no_tag_session() {
         assert!(!changed(|s| s.inner.waiting[5] = 1, bits, b + 5));
         assert!(!changed(|s| s.outer.waiting[0] = 1, bits, b + 5));
         assert!(!changed(|s| s.outer.waiting[191] = 1, bits, b + 5));
+        assert!(!changed(|s| s.inner.waiting[192] = 1, bits, b + 5));
+        assert!(!changed(|s| s.outer.waiting[223] = 1, bits, b + 5));
         assert!(!changed(|s| s.inner.taken += 1, bits, LIMIT));
         assert!(!changed(|s| s.outer.taken = u64::MAX, bits, b));
         let long = bits > 256;
@@ -199,6 +202,39 @@ fn what_is_no_tag_session() {
     assert!(!changed(|s| s.outer.taken = 128, 256, 192));
     assert!(!changed(|s| s.outer.taken = 192, 264, 192));
     assert!(!changed(|s| s.inner.taken = 128, 256, 192));
+}
+
+/// Right but for the mode of one session or of both, each of which is a digest
+/// session in that mode, and has taken the one mode's block or the other's.
+#[test]
+fn no_session_of_a_tag_session_is_single_pipe() {
+    let with = |bits, modes: [Mode; 2], taken| {
+        let [mut inner, mut outer] = [0x55, 0x66].map(|byte| digest_session(bits, 0, byte));
+        for (part, mode) in [&mut inner, &mut outer].into_iter().zip(modes) {
+            (part.mode, part.taken) = (mode, taken);
+            part.chaining[32..].fill(0);
+            assert!(part.is_session());
+        }
+        TagSession { inner, outer }
+    };
+    for (bits, double, single) in [(256, 192, 224), (512, 128, 192)] {
+        assert!(with(bits, [DoublePipe, DoublePipe], double).is_session());
+        for modes in [
+            [SinglePipe, DoublePipe],
+            [DoublePipe, SinglePipe],
+            [SinglePipe, SinglePipe],
+        ] {
+            for taken in [double, single] {
+                let session = with(bits, modes, taken);
+                assert!(!session.is_session());
+                let mut same = session.clone();
+                assert_eq!(same.add(&[]), 3);
+                assert_eq!(same, session);
+                assert_eq!(session.read(&mut [0; 64]), 3);
+                assert_eq!(session.check(&[]), (3, false));
+            }
+        }
+    }
 }
 
 /// Digest lengths of the two families, each with the other's block taken.
@@ -290,7 +326,7 @@ fn reading_goes_on_from_a_forged_session() {
         last.extend((8 * n).to_le_bytes());
         last.extend([0; 8]);
         let mut chaining = vec![0x66; 256 - b];
-        compress(&mut chaining, &last, 8 * n, &SALT);
+        compress(DoublePipe, &mut chaining, &last, 8 * n, &SALT);
         assert_eq!(tag(&session), chaining[..size]);
     }
 }

@@ -4,6 +4,7 @@
 use crate::family::{Family, Run};
 use crate::folder::Folder;
 use crate::program::{at_once, check_all, Job};
+use plain::mode::Mode::DoublePipe;
 use plain::{digest, hex};
 use std::path::Path;
 
@@ -55,7 +56,7 @@ fn run(run: &mut Run) -> Result<(), String> {
 /// The line of a digest.
 pub fn line(bits: u64, salt: &[u8], message: &[u8], name: &str) -> String {
     let salt = salt.try_into().expect("sixteen bytes");
-    let digest = digest::digest(bits, &salt, message);
+    let digest = digest::digest(DoublePipe, bits, &salt, message);
     named(&format!("{}  ", hex::encode(&digest)), name, "")
 }
 

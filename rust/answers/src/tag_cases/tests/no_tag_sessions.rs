@@ -96,7 +96,7 @@ fn checks_are_given_what_would_be_the_tag() {
             let mut tag = vec![0; outer.bits as usize / 8];
             assert_eq!(joined.read(&mut tag), 0);
             assert_eq!(usize::from(case.length), tag.len());
-            assert!(case.record()[HEADER + 704..].starts_with(&tag));
+            assert!(case.record()[HEADER + 770..].starts_with(&tag));
             given += 1;
         }
     }

@@ -1,21 +1,22 @@
-//! Cases of the program `digest_cases`: digests at once and over a session, done
-//! and refused.
+//! Cases of the program `digest_cases`: digests at once and over a session, in both
+//! modes, done and refused.
 
 mod record;
 mod refused;
+mod single_pipe;
 #[cfg(test)]
 mod tests;
 
 use crate::file::File;
 use plain::family;
-use plain::mode::Mode::DoublePipe;
+use plain::mode::Mode::{self, DoublePipe};
 use record::Case;
 use seeded::Generator;
 
 /// The digest lengths that the paper names.
 const NAMED: [u16; 4] = [224, 256, 384, 512];
 
-/// How often each message is digested.
+/// How often each message in double-pipe is digested.
 const CUTS: usize = 3;
 
 /// The program's input and the output it has to give.
@@ -38,6 +39,7 @@ fn cases() -> Vec<Case> {
     let mut cases = empty_messages(&mut generator);
     cases.extend(block_edges(&mut generator));
     cases.extend(refused::cases(&mut generator));
+    cases.extend(single_pipe::cases(&mut Generator::new(7)));
     cases
 }
 
@@ -57,13 +59,13 @@ fn empty_messages(generator: &mut Generator) -> Vec<Case> {
     cases
 }
 
-/// Messages for every admitted digest length: they end on both sides of where
+/// Messages in double-pipe for every admitted digest length: they end on both sides of where
 /// the padding needs one block more, and of a block's end, up to four blocks.
 /// Each is digested in several cuts.
 fn block_edges(generator: &mut Generator) -> Vec<Case> {
     let mut cases = Vec::new();
     for bits in (128..=512).step_by(8) {
-        let b = block(bits);
+        let b = block(DoublePipe, bits);
         let edges = (1..=4).flat_map(|j| {
             let end = j * b;
             [end - 19, end - 18, end - 1, end, end + 1]
@@ -85,10 +87,15 @@ fn block_edges(generator: &mut Generator) -> Vec<Case> {
 /// At once, and in pieces of two sizes, which come in turn. Each piece is
 /// followed by a reading, so that single bytes are for short messages.
 fn cuts(b: u16, length: u16, turn: usize) -> [u16; CUTS] {
-    let few = if length <= b + 1 { 1 } else { 5 };
-    let sizes = [few, 7, b - 1, b, b + 1, length.max(1), 64, 13, 1000];
+    let sizes = pieces(b, length);
     let size = |index: usize| sizes[index % sizes.len()];
     [0, size(turn), size(turn + 4)]
+}
+
+/// Sizes of the pieces of a message.
+fn pieces(b: u16, length: u16) -> [u16; 9] {
+    let few = if length <= b + 1 { 1 } else { 5 };
+    [few, 7, b - 1, b, b + 1, length.max(1), 64, 13, 1000]
 }
 
 /// A case whose salt is all zero one time in four.
@@ -101,6 +108,6 @@ fn some_salt(generator: &mut Generator, bits: u16, length: u16, piece: u16) -> C
 }
 
 /// Bytes of a block.
-fn block(bits: u16) -> u16 {
-    family::of_bits(DoublePipe, bits.into()).block as u16
+fn block(mode: Mode, bits: u16) -> u16 {
+    family::of_bits(mode, bits.into()).block as u16
 }

@@ -1,6 +1,7 @@
 //! One case of `digest_cases`: its record of 32 bytes and the line it has to give.
 
 use crate::patterned::patterned;
+use plain::mode::Mode;
 use plain::{checked, hex, refusal};
 use seeded::Generator;
 
@@ -10,6 +11,7 @@ pub const RECORD: usize = 32;
 /// A case: a message by its length and seed, and how it is handed over.
 #[derive(Clone)]
 pub struct Case {
+    pub mode: Mode,
     /// The digest length.
     pub bits: u16,
     /// Bytes of the message.
@@ -24,9 +26,10 @@ pub struct Case {
 }
 
 impl Case {
-    /// A case with everything else from the generator.
+    /// A case in double-pipe, with everything else from the generator.
     pub fn new(generator: &mut Generator, bits: u16, length: u16, piece: u16) -> Case {
         Case {
+            mode: Mode::DoublePipe,
             bits,
             length,
             seed: generator.below(256) as u8,
@@ -44,7 +47,8 @@ impl Case {
         record.push(self.seed);
         record.extend(self.piece.to_le_bytes());
         record.push(self.salt_length);
-        record.extend([0; 8]);
+        record.push(self.mode.number());
+        record.extend([0; 7]);
         record.extend(self.salt);
         record
     }
@@ -55,9 +59,10 @@ impl Case {
 
     /// The digest, or the refusal number. The pieces make no difference to it.
     pub fn answer(&self) -> Result<Vec<u8>, u8> {
+        let (mode, bits) = (self.mode.number(), self.bits.into());
         let salt = &self.salt[..usize::from(self.salt_length)];
         let mut room = [0; 64];
-        match checked::digest(self.bits.into(), salt, &self.message(), &mut room) {
+        match checked::digest_in(mode, bits, salt, &self.message(), &mut room) {
             refusal::NONE => Ok(room[..usize::from(self.bits) / 8].to_vec()),
             number => Err(number),
         }

@@ -1,5 +1,7 @@
 use super::record::RECORD;
 use super::*;
+use plain::mode::Mode::SinglePipe;
+use plain::session::Session;
 use std::collections::HashSet;
 
 /// Published digests of the empty message under the all-zero salt.
@@ -22,9 +24,11 @@ fn records_have_their_layout() {
         let record = case.record();
         assert_eq!(record.len(), RECORD);
         assert!(case.length <= 1024 && case.salt_length <= 16);
-        assert_eq!(record[8..16], [0; 8]);
+        assert!(record[8] <= 1);
+        assert_eq!(record[9..16], [0; 7]);
     }
     let case = Case {
+        mode: SinglePipe,
         bits: 0x0201,
         length: 0x0403,
         seed: 5,
@@ -32,8 +36,8 @@ fn records_have_their_layout() {
         salt_length: 8,
         salt: std::array::from_fn(|i| 16 + i as u8),
     };
-    let numbers = [1, 2, 3, 4, 5, 6, 7, 8];
-    assert_eq!(case.record(), [&numbers[..], &[0; 8], &case.salt].concat());
+    let numbers = [1, 2, 3, 4, 5, 6, 7, 8, 1];
+    assert_eq!(case.record(), [&numbers[..], &[0; 7], &case.salt].concat());
 }
 
 #[test]
@@ -51,8 +55,9 @@ fn messages_by_their_rule() {
 
 #[test]
 fn only_the_refused_cases_are_refused() {
-    let mut counts = [0; 3];
+    let mut counts = [[0; 3]; 2];
     for case in cases() {
+        let counts = &mut counts[usize::from(case.mode.number())];
         match case.answer() {
             Ok(digest) => {
                 assert_eq!(8 * digest.len(), case.bits.into());
@@ -67,33 +72,92 @@ fn only_the_refused_cases_are_refused() {
     // Done are 8 of empty messages, and 23 messages in three cuts for each of 49
     // digest lengths. Refused for the digest length are 18 with a salt of 16
     // bytes and 36 with another; for the salt alone, 16.
-    assert_eq!(counts, [8 + 49 * 23 * 3, 18 + 36, 16]);
+    assert_eq!(counts[0], [8 + 49 * 23 * 3, 18 + 36, 16]);
+    // In single-pipe, every length to 3 bytes past three blocks in both families,
+    // and 19 messages in two cuts for each of 49 digest lengths.
+    let every_length = (3 * 224 + 4) + (3 * 192 + 4);
+    assert_eq!(counts[1], [every_length + 49 * 19 * 2, 18 + 36, 16]);
 }
 
 #[test]
 fn every_kind_of_hand_over_is_met() {
-    let cases = cases();
-    let done: Vec<&Case> = cases.iter().filter(|case| case.answer().is_ok()).collect();
-    let lengths: HashSet<u16> = done.iter().map(|case| case.bits).collect();
-    assert_eq!(lengths.len(), 49);
-    for bits in lengths {
-        let b = block(bits);
-        for j in 1..=4 {
-            for length in [j * b - 19, j * b - 18, j * b, j * b + 1] {
-                let met = |case: &&&Case| case.bits == bits && case.length == length;
-                assert!(done.iter().filter(met).count() >= CUTS);
+    for (mode, blocks, cuts) in [(DoublePipe, 4, CUTS), (SinglePipe, 3, single_pipe::CUTS)] {
+        let mut done = cases();
+        done.retain(|case| case.mode == mode && case.answer().is_ok());
+        let lengths: HashSet<u16> = done.iter().map(|case| case.bits).collect();
+        assert_eq!(lengths.len(), 49);
+        for bits in lengths {
+            let b = block(mode, bits);
+            for j in 1..=blocks {
+                for length in [j * b - 19, j * b - 18, j * b, j * b + 1] {
+                    let met = |case: &&Case| case.bits == bits && case.length == length;
+                    assert!(done.iter().filter(met).count() >= cuts);
+                }
+            }
+        }
+        for bits in [256, 512] {
+            let b = block(mode, bits);
+            let family = done.iter().filter(|case| block(mode, case.bits) == b);
+            let pieces: HashSet<u16> = family.map(|case| case.piece).collect();
+            for piece in [0, 1, 5, 7, 13, 64, b - 1, b, b + 1, 1000] {
+                assert!(pieces.contains(&piece));
+            }
+        }
+        let zero = done.iter().filter(|case| case.salt == [0; 16]).count();
+        assert!(zero > done.len() / 6 && zero < done.len() / 3);
+    }
+}
+
+/// All lengths up to past three blocks, and among them the last message that
+/// leaves room for its padding in each block, and the first that doesn't.
+#[test]
+fn every_length_is_met_in_single_pipe() {
+    let cases = single_pipe::every_length(&mut Generator::new(7));
+    for (bits, edges) in [
+        (256, [205, 206, 224, 429, 430, 448, 653, 654, 672, 675]),
+        (512, [173, 174, 192, 365, 366, 384, 557, 558, 576, 579]),
+    ] {
+        let family = cases.iter().filter(|case| case.bits == bits);
+        let lengths: Vec<u16> = family.map(|case| case.length).collect();
+        assert_eq!(lengths, (0..=edges[9]).collect::<Vec<u16>>());
+        assert!(edges.iter().all(|edge| lengths.contains(edge)));
+    }
+}
+
+/// In each family every edge of a block meets every size of the pieces.
+#[test]
+fn every_edge_meets_every_cut_in_single_pipe() {
+    let cases = single_pipe::block_edges(&mut Generator::new(7));
+    for b in [224, 192] {
+        let family = cases
+            .iter()
+            .filter(|case| block(SinglePipe, case.bits) == b);
+        let met: HashSet<(u16, u16)> = family.map(|case| (case.length, case.piece)).collect();
+        let edges = [b - 19, b - 18, b - 1, b, b + 1];
+        for length in [0, 1].into_iter().chain(edges) {
+            for piece in pieces(b, length) {
+                assert!(met.contains(&(length, piece)));
             }
         }
     }
-    for b in [192, 128] {
-        let family = done.iter().filter(|case| block(case.bits) == b);
-        let pieces: HashSet<u16> = family.map(|case| case.piece).collect();
-        for piece in [0, 1, 5, 7, 13, 64, b - 1, b, b + 1, 1000] {
-            assert!(pieces.contains(&piece));
+}
+
+/// What the program does with pieces, step by step.
+#[test]
+fn pieces_with_a_reading_behind_each_give_the_answer_in_single_pipe() {
+    let mut cases = single_pipe::cases(&mut Generator::new(7));
+    cases.retain(|case| case.piece > 0 && case.answer().is_ok());
+    for case in cases {
+        let (number, mut session) = Session::open(case.mode, case.bits.into(), &case.salt);
+        assert_eq!(number, 0);
+        let mut room = [0; 64];
+        for piece in case.message().chunks(case.piece.into()) {
+            assert_eq!([session.add(piece), session.read(&mut room)], [0, 0]);
         }
+        assert_eq!(session.read(&mut room), 0);
+        let digest = case.answer().expect("a digest");
+        assert_eq!(room[..digest.len()], digest);
     }
-    let zero = done.iter().filter(|case| case.salt == [0; 16]).count();
-    assert!(zero > done.len() / 6 && zero < done.len() / 3);
 }
 
 #[test]
@@ -104,7 +168,7 @@ fn every_row_of_the_counter_table_is_met() {
         (128, vec![0, 109, 110, 128]),
     ] {
         for length in lengths {
-            let met = |case: &Case| block(case.bits) == b && case.length == length;
+            let met = |case: &Case| block(DoublePipe, case.bits) == b && case.length == length;
             assert!(cases.iter().any(met));
         }
     }
@@ -112,6 +176,14 @@ fn every_row_of_the_counter_table_is_met() {
 
 #[test]
 fn each_message_is_cut_in_several_ways() {
+    for cuts in single_pipe::block_edges(&mut Generator::new(7)).chunks(single_pipe::CUTS) {
+        let [first, second] = cuts else {
+            panic!("two cuts");
+        };
+        assert!(first.piece == 0 && second.piece > 0);
+        assert_eq!(first.line(), second.line());
+        assert_eq!(first.message(), second.message());
+    }
     for cuts in block_edges(&mut Generator::new(2)).chunks(CUTS) {
         assert_eq!(cuts[0].piece, 0);
         for case in cuts {

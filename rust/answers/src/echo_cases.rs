@@ -1,13 +1,14 @@
 //! Cases of the program `echo_cases`: rounds forward and backward, and
-//! compression, done and refused.
+//! compression in both modes, done and refused.
 
 mod record;
 mod refused;
+mod single_pipe;
 #[cfg(test)]
 mod tests;
 
 use crate::file::File;
-use plain::mode::Mode::DoublePipe;
+use plain::mode::Mode::{self, DoublePipe, SinglePipe};
 use plain::refusal::COUNTER_LIMIT;
 use plain::{digest, family, padding};
 use record::{Case, Kind};
@@ -32,10 +33,11 @@ fn cases() -> Vec<Case> {
     let mut generator = Generator::new(1);
     let counters = counters(&mut generator);
     let mut cases = on_squares(&mut generator, &counters);
-    cases.extend(compressions(&mut generator, &counters));
+    cases.extend(compressions(&mut generator, DoublePipe, &counters));
     cases.extend(empty_messages(&mut generator));
     cases.extend(refused::cases(&mut generator));
     cases.extend(by_bytes(&cases));
+    cases.extend(single_pipe::cases(&mut Generator::new(8)));
     cases
 }
 
@@ -88,13 +90,17 @@ fn on_squares(generator: &mut Generator, counters: &[u64]) -> Vec<Case> {
     cases
 }
 
-/// Compressions of both families at every counter.
-fn compressions(generator: &mut Generator, counters: &[u64]) -> Vec<Case> {
+/// Compressions of both families of a mode at every counter.
+fn compressions(generator: &mut Generator, mode: Mode, counters: &[u64]) -> Vec<Case> {
+    let kind = match mode {
+        DoublePipe => Kind::Compress,
+        SinglePipe => Kind::CompressSingle,
+    };
     let mut cases = Vec::new();
-    for (turn, family) in [family::SHORT, family::LONG].into_iter().enumerate() {
+    for (turn, family) in family::of_mode(mode).into_iter().enumerate() {
         let (chaining, block) = (family.chaining, family.block);
         for (index, &counter) in counters.iter().enumerate() {
-            let mut case = Case::compress(generator, chaining as u16, block as u16, counter);
+            let mut case = Case::compress(generator, kind, chaining as u16, block as u16, counter);
             if (index + turn) % 2 == 0 {
                 case.salt[..16].fill(0);
             }
@@ -124,7 +130,7 @@ fn empty_messages(generator: &mut Generator) -> Vec<Case> {
                 padding::pad(DoublePipe, bits, b""),
             );
             let (a, b) = (chaining.len(), block.len());
-            let mut case = Case::compress(generator, a as u16, b as u16, 0);
+            let mut case = Case::compress(generator, Kind::Compress, a as u16, b as u16, 0);
             case.salt[..16].fill(0);
             case.a[..a].copy_from_slice(&chaining);
             case.b[..b].copy_from_slice(&block);

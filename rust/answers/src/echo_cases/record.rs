@@ -1,10 +1,16 @@
-//! One case of `echo_cases`: its record of 513 bytes and the line it has to give.
+//! One case of `echo_cases`: its record of 545 bytes and the line it has to give.
 
+use plain::mode::Mode;
 use plain::{checked, hex};
 use seeded::Generator;
 
 /// Bytes of a record.
-pub const RECORD: usize = 513;
+pub const RECORD: usize = 545;
+
+/// Bytes of the room of a block, and those of them that the cases' own generator
+/// fills.
+pub const BLOCK_ROOM: usize = 240;
+const DRAWN: usize = 208;
 
 /// What a case asks for; the numbers stand in the record.
 #[derive(Debug, Clone, Copy, PartialEq, Eq)]
@@ -13,10 +19,12 @@ pub enum Kind {
     Rounds = 1,
     /// Rounds backward over a square.
     RoundsBack = 2,
-    /// A block taken into a chaining value.
+    /// A block taken into a chaining value, in double-pipe.
     Compress = 3,
     /// Rounds forward over a square, by the library's path byte by byte.
     RoundsByBytes = 4,
+    /// A block taken into a chaining value, in single-pipe.
+    CompressSingle = 5,
 }
 
 /// A case: buffers with room to spare, and how much of each is handed over.
@@ -36,7 +44,7 @@ pub struct Case {
     /// The square or the chaining value.
     pub a: [u8; 272],
     /// The block.
-    pub b: [u8; 208],
+    pub b: [u8; BLOCK_ROOM],
 }
 
 impl Case {
@@ -47,9 +55,15 @@ impl Case {
     }
 
     /// A compression, with everything else from the generator.
-    pub fn compress(generator: &mut Generator, chaining: u16, block: u16, counter: u64) -> Case {
+    pub fn compress(
+        generator: &mut Generator,
+        kind: Kind,
+        chaining: u16,
+        block: u16,
+        counter: u64,
+    ) -> Case {
         let count = generator.below(256) as u8;
-        Case::filled(generator, Kind::Compress, count, chaining, block, counter)
+        Case::filled(generator, kind, count, chaining, block, counter)
     }
 
     fn filled(
@@ -69,7 +83,7 @@ impl Case {
             counter,
             salt: generator.bytes(),
             a: generator.bytes(),
-            b: generator.bytes(),
+            b: block_room(generator),
         }
     }
 
@@ -97,6 +111,10 @@ impl Case {
             Kind::Rounds | Kind::RoundsByBytes => checked::rounds(lent, count, self.counter, salt),
             Kind::RoundsBack => checked::rounds_back(lent, count, self.counter, salt),
             Kind::Compress => checked::compress(lent, block, self.counter, salt),
+            Kind::CompressSingle => {
+                let mode = Mode::SinglePipe.number();
+                checked::compress_in(mode, lent, block, self.counter, salt)
+            }
         };
         (number, a)
     }
@@ -106,4 +124,16 @@ impl Case {
         let (number, a) = self.answer();
         format!("{number} {}\n", hex::encode(&a))
     }
+}
+
+/// The room of a block. Its end comes from a generator that its front decides, so
+/// that a longer room leaves all that is drawn behind it as it is.
+fn block_room(generator: &mut Generator) -> [u8; BLOCK_ROOM] {
+    let drawn: [u8; DRAWN] = generator.bytes();
+    let seed = drawn[..8].try_into().expect("8 bytes");
+    let end: [u8; BLOCK_ROOM - DRAWN] = Generator::new(u64::from_le_bytes(seed)).bytes();
+    let mut room = [0; BLOCK_ROOM];
+    room[..DRAWN].copy_from_slice(&drawn);
+    room[DRAWN..].copy_from_slice(&end);
+    room
 }

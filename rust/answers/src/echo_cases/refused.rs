@@ -33,8 +33,8 @@ fn admitted(generator: &mut Generator, kind: Kind) -> Case {
     let counter = generator.number() >> 1;
     let long = generator.below(2) == 1;
     match (kind, long) {
-        (Kind::Compress, false) => Case::compress(generator, 64, 192, counter),
-        (Kind::Compress, true) => Case::compress(generator, 128, 128, counter),
+        (Kind::Compress, false) => Case::compress(generator, kind, 64, 192, counter),
+        (Kind::Compress, true) => Case::compress(generator, kind, 128, 128, counter),
         (_, false) => Case::on_square(generator, kind, 8, counter),
         (_, true) => Case::on_square(generator, kind, 10, counter),
     }

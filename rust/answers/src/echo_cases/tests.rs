@@ -4,18 +4,26 @@ use super::*;
 #[test]
 fn records_and_lines_have_their_sizes() {
     let cases = cases();
-    assert!(cases.len() <= 160);
+    assert!(cases.len() <= 240);
     for case in &cases {
         assert_eq!(case.record().len(), RECORD);
-        assert!(case.salt_length <= 18 && case.a_length <= 272 && case.b_length <= 208);
+        assert!(case.salt_length <= 18 && case.a_length <= 272 && case.b_length <= 240);
         assert_eq!(case.line().len(), 2 + 2 * 272 + 1);
     }
+}
+
+/// The cases that were there before single-pipe.
+fn double_pipe() -> Vec<Case> {
+    let mut cases = cases();
+    let single = single_pipe::cases(&mut Generator::new(8)).len();
+    cases.truncate(cases.len() - single);
+    cases
 }
 
 #[test]
 fn only_the_refused_cases_are_refused() {
     let mut counts = [0; 8];
-    for case in cases() {
+    for case in double_pipe() {
         let (number, a) = case.answer();
         counts[number as usize] += 1;
         let lent = case.a_length as usize;
@@ -32,6 +40,56 @@ fn only_the_refused_cases_are_refused() {
     let others = [70, 0, 9 + 9, 0, 0, 0, 23 + 3, 6];
     let all: Vec<i32> = by_bytes.iter().zip(others).map(|(a, b)| a + b).collect();
     assert_eq!(counts[..], all[..]);
+}
+
+/// The sizes of a compression, by the table of refusals.
+fn right_sizes(case: &Case) -> bool {
+    let sizes = (case.a_length, case.b_length);
+    match case.kind {
+        Kind::Compress => [(64, 192), (128, 128)].contains(&sizes),
+        _ => [(32, 224), (64, 192)].contains(&sizes),
+    }
+}
+
+#[test]
+fn only_the_refused_cases_are_refused_in_single_pipe() {
+    let mut counts = [0; 8];
+    for case in single_pipe::cases(&mut Generator::new(8)) {
+        let reasons = [
+            (2, case.salt_length != 16),
+            (6, !right_sizes(&case)),
+            (7, case.counter > u64::MAX - 160),
+        ];
+        let first = reasons.iter().find(|(_, holds)| *holds);
+        let number = first.map_or(0, |(number, _)| *number);
+        let (given, a) = case.answer();
+        let lent = case.a_length as usize;
+        assert_eq!(given, number);
+        assert_eq!(number == 0, a != case.a);
+        assert_eq!(a[lent..], case.a[lent..]);
+        counts[number as usize] += 1;
+    }
+    // Both sizes at 11 counters, and one block in both modes. For each of the sizes
+    // 3 are refused for the salt, 2 for the counter, and of the four with several
+    // reasons three have a wrong salt; for their sizes alone, 23 and 3.
+    assert_eq!(counts, [24, 0, 2 * (3 + 3), 0, 0, 0, 2 + 23 + 3, 2 * 2]);
+}
+
+#[test]
+fn one_block_has_another_answer_in_the_other_mode() {
+    let cases = single_pipe::cases(&mut Generator::new(8));
+    let (double, single) = (&cases[22], &cases[23]);
+    assert_eq!(double.record()[1..], single.record()[1..]);
+    assert_eq!((double.kind as u8, single.kind as u8), (3, 5));
+    assert_ne!(double.answer().1, single.answer().1);
+}
+
+#[test]
+fn the_room_of_a_block_is_filled_to_its_end() {
+    for case in cases() {
+        let end = &case.b[208..];
+        assert!(end.iter().any(|byte| *byte != end[0]));
+    }
 }
 
 #[test]

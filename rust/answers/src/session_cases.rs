@@ -1,7 +1,9 @@
-//! Cases of the program `session_cases`: sessions that need not come from an
-//! opening, nor be sessions at all, opened, added to, read and asked about.
+//! Cases of the program `session_cases`: sessions of both modes that need not come
+//! from an opening, nor be sessions at all, opened, added to, read and asked about.
 
 pub mod forged;
+mod in_both_modes;
+mod near_sessions;
 mod no_sessions;
 pub mod record;
 mod refused;
@@ -43,6 +45,7 @@ fn cases() -> Vec<Case> {
     cases.extend(bare(&mut generator));
     cases.extend(no_sessions::cases(&mut generator));
     cases.extend(refused::cases(&mut generator, DoublePipe));
+    cases.extend(in_both_modes::cases(&mut Generator::new(9)));
     cases
 }
 

@@ -15,6 +15,7 @@ pub struct Lengths {
     pub bits: [u64; 6],
 }
 
+/// Those of double-pipe.
 pub const FAMILIES: [Lengths; 2] = [
     Lengths {
         mode: Mode::DoublePipe,
@@ -27,6 +28,27 @@ pub const FAMILIES: [Lengths; 2] = [
         bits: [264, 512, 384, 272, 448, 504],
     },
 ];
+
+const SINGLE_PIPE: [Lengths; 2] = [
+    Lengths {
+        mode: Mode::SinglePipe,
+        block: 224,
+        bits: [128, 256, 224, 136, 160, 248],
+    },
+    Lengths {
+        mode: Mode::SinglePipe,
+        block: 192,
+        bits: [264, 512, 384, 272, 448, 504],
+    },
+];
+
+/// The families of a mode.
+pub fn families(mode: Mode) -> [Lengths; 2] {
+    match mode {
+        Mode::DoublePipe => FAMILIES,
+        Mode::SinglePipe => SINGLE_PIPE,
+    }
+}
 
 /// The last end of a block that a message may reach.
 pub fn last_edge(block: u64) -> u64 {

@@ -1,4 +1,4 @@
-//! Records that are no session, each for one reason.
+//! Records in double-pipe that are no session, each for one reason.
 
 use super::forged::{changed, forged};
 use super::record::{Case, Task};
@@ -9,7 +9,7 @@ use seeded::Generator;
 
 /// Digest lengths that are not admitted. The last but one has an admitted one in
 /// its lower half.
-const BITS: [u64; 8] = [0, 120, 127, 260, 513, 520, (1 << 32) + 256, u64::MAX];
+pub const BITS: [u64; 8] = [0, 120, 127, 260, 513, 520, (1 << 32) + 256, u64::MAX];
 
 /// A digest length, a number of message bytes, and a place of the waiting block
 /// behind those in use: the next one, the last of a block, the one behind it,
@@ -25,11 +25,16 @@ const WAITING: [(u64, u64, usize); 8] = [
     (504, 127, 191),
 ];
 
+pub fn cases(generator: &mut Generator) -> Vec<Case> {
+    let records = records(generator);
+    tried(generator, records)
+}
+
 /// Each record is asked about. Then every other one is given an empty piece, and
 /// the rest are read into a room that is enough for any digest.
-pub fn cases(generator: &mut Generator) -> Vec<Case> {
+pub fn tried(generator: &mut Generator, records: Vec<Session>) -> Vec<Case> {
     let mut cases = Vec::new();
-    for (index, session) in records(generator).into_iter().enumerate() {
+    for (index, session) in records.into_iter().enumerate() {
         cases.push(Case::new(generator, Task::IsSession, 0, session.clone()));
         let (task, length) = match index % 2 {
             0 => (Task::Add, 0),
@@ -69,6 +74,6 @@ pub fn records(generator: &mut Generator) -> Vec<Session> {
 }
 
 /// Any byte but zero.
-fn some_byte(generator: &mut Generator) -> u8 {
+pub fn some_byte(generator: &mut Generator) -> u8 {
     1 + generator.below(255) as u8
 }

@@ -11,22 +11,24 @@ pub const RECORD: usize = 642;
 /// Bytes of the room for a piece or the output.
 pub const ROOM: usize = 255;
 
-/// What is asked of a session; the numbers stand in the record.
+/// What is asked of a session.
 #[derive(Debug, Clone, Copy, PartialEq, Eq)]
 pub enum Task {
     /// Adds a piece.
-    Add = 1,
+    Add,
     /// Reads the digest.
-    Read = 2,
-    IsSession = 3,
-    /// Opens another one, of the same digest length and salt.
-    Open = 4,
+    Read,
+    IsSession,
+    /// Opens another one, of the same mode, digest length and salt.
+    Open,
 }
 
 /// A case: a record that may be a session, and what is handed over with it.
 #[derive(Clone)]
 pub struct Case {
     pub task: Task,
+    /// Whether the line tells the mode and all of the waiting room too.
+    pub whole: bool,
     /// Bytes of the piece, the output room or the salt that are handed over.
     pub length: u8,
     pub session: Session,
@@ -43,10 +45,11 @@ pub struct Answer {
 }
 
 impl Case {
-    /// A case with a room from the generator.
+    /// A case with a room from the generator, whose line does not tell the mode.
     pub fn new(generator: &mut Generator, task: Task, length: u8, session: Session) -> Case {
         Case {
             task,
+            whole: false,
             length,
             session,
             room: generator.bytes(),
@@ -56,10 +59,23 @@ impl Case {
     /// The record. Numbers have their least significant byte first.
     pub fn record(&self) -> Vec<u8> {
         let mut record = Vec::with_capacity(RECORD);
-        record.extend([self.task as u8, self.length]);
+        record.extend([self.number(), self.length]);
         record.extend(bytes(&self.session));
         record.extend(self.room);
         record
+    }
+
+    /// The number of the task in the record.
+    fn number(&self) -> u8 {
+        match (self.task, self.whole) {
+            (Task::Add, false) => 1,
+            (Task::Read, false) => 2,
+            (Task::IsSession, _) => 3,
+            (Task::Open, false) => 4,
+            (Task::Add, true) => 5,
+            (Task::Read, true) => 6,
+            (Task::Open, true) => 7,
+        }
     }
 
     /// All that the task hands back. The question whether it is a session is
@@ -87,20 +103,17 @@ impl Case {
     /// The line that the program has to print for the record.
     pub fn line(&self) -> String {
         let answer = self.answer();
+        let (number, session) = (answer.number, fields(&answer.session, self.whole));
         match self.task {
-            Task::Add | Task::Open => handed_back(&answer) + "\n",
+            Task::Add | Task::Open => format!("{number} {session}\n"),
             Task::Read => {
                 let lent = &answer.room[..usize::from(self.length)];
-                format!("{} {}\n", handed_back(&answer), hex::encode(lent))
+                format!("{number} {session} {}\n", hex::encode(lent))
             }
             Task::IsSession if self.session.is_session() => "yes\n".into(),
             Task::IsSession => "no\n".into(),
         }
     }
-}
-
-fn handed_back(answer: &Answer) -> String {
-    format!("{} {}", answer.number, fields(&answer.session))
 }
 
 /// The 385 bytes of a session within a record.
@@ -115,17 +128,22 @@ pub fn bytes(session: &Session) -> Vec<u8> {
     bytes
 }
 
-/// The five fields of a session within a line: without the mode, and of the
-/// waiting block's room as much as a block takes in double-pipe.
-pub fn fields(session: &Session) -> String {
+/// The fields of a session within a line: six if it is told as a whole. Else five,
+/// without the mode, and of the waiting room as much as double-pipe has use for.
+pub fn fields(session: &Session, whole: bool) -> String {
     let Session {
+        mode,
         bits,
         salt,
         chaining,
         taken,
         waiting,
-        ..
     } = session;
-    let bytes = [&salt[..], chaining, &waiting[..192]].map(hex::encode);
-    format!("{bits} {taken} {}", bytes.join(" "))
+    let waiting = if whole { waiting } else { &waiting[..192] };
+    let bytes = [&salt[..], chaining, waiting].map(hex::encode).join(" ");
+    let fields = format!("{bits} {taken} {bytes}");
+    match whole {
+        true => format!("{} {fields}", mode.number()),
+        false => fields,
+    }
 }

@@ -1,22 +1,34 @@
+use super::forged::families;
 use super::record::{RECORD, ROOM};
 use super::*;
 use plain::digest;
-use plain::mode::Mode;
+use plain::mode::Mode::{self, SinglePipe};
+use plain::mode::MODES;
 use std::collections::HashSet;
 
 /// The most bytes of a message: 2^61 - 21.
 const LIMIT: u64 = 2_305_843_009_213_693_931;
 
+/// Bytes of a block, by mode and family.
+fn block(mode: Mode, bits: u64) -> u64 {
+    match (mode, bits <= 256) {
+        (SinglePipe, true) => 224,
+        (SinglePipe, false) | (DoublePipe, true) => 192,
+        (DoublePipe, false) => 128,
+    }
+}
+
 /// Why a record is no session, by the words of the rule.
 fn reasons(session: &Session) -> Vec<&'static str> {
-    let short = session.bits <= 256;
-    let in_use = session.taken % if short { 192 } else { 128 };
+    let b = block(session.mode, session.bits);
+    let in_use = session.taken % b;
     let waits = |place: usize| session.waiting[place] != 0 && place as u64 >= in_use;
+    let chained = |place: usize| session.chaining[place] != 0 && place as u64 >= 256 - b;
     let reasons = [
         ("bits", !(16..=64).any(|bytes| 8 * bytes == session.bits)),
         ("taken", session.taken > LIMIT),
         ("waiting", (0..224).any(waits)),
-        ("chaining", short && session.chaining[64..] != [0; 64]),
+        ("chaining", (0..128).any(chained)),
     ];
     holding(reasons)
 }
@@ -41,23 +53,43 @@ fn holding<T, const N: usize>(conditions: [(T, bool); N]) -> Vec<T> {
     holding.map(|(what, _)| what).collect()
 }
 
-/// The cases of a task that are done, in the family of a block size.
-fn done(task: Task, block: u64) -> Vec<Case> {
+/// What the cases of a mode are counted by: whether their lines tell it.
+const GROUPS: [(Mode, bool); 3] = [(DoublePipe, false), (DoublePipe, true), (SinglePipe, true)];
+
+/// The cases of a group, but for sessions that come from the other mode.
+fn group(mode: Mode, whole: bool) -> Vec<Case> {
     let mut cases = cases();
+    cases.truncate(cases.len() - 18);
+    cases.retain(|case| (case.session.mode, case.whole) == (mode, whole));
+    cases
+}
+
+/// The cases of a task in a group that are done, in the family of a block size.
+fn done(group: (Mode, bool), task: Task, b: u64) -> Vec<Case> {
+    let mut cases = self::group(group.0, group.1);
     cases.retain(|case| {
-        let short = case.session.bits <= 256;
-        case.task == task && refusals(case).is_empty() && short == (block == 192)
+        let family = block(case.session.mode, case.session.bits);
+        case.task == task && refusals(case).is_empty() && family == b
     });
     cases
 }
 
+/// Each group with the block of each of its families.
+fn families_of_groups() -> impl Iterator<Item = ((Mode, bool), u64)> {
+    let blocks = |mode| families(mode).map(|lengths| lengths.block);
+    GROUPS
+        .into_iter()
+        .flat_map(move |group| blocks(group.0).map(|b| (group, b)))
+}
+
 #[test]
 fn records_have_their_layout() {
-    let case = Case {
+    let mut case = Case {
         task: Task::Read,
+        whole: false,
         length: 3,
         session: Session {
-            mode: Mode::SinglePipe,
+            mode: SinglePipe,
             bits: 0x0b0a_0908_0706_0504,
             salt: [0x14; 16],
             chaining: [0x15; 128],
@@ -76,6 +108,43 @@ fn records_have_their_layout() {
     let parts = [&numbers[..], salt, chaining, waiting, &[1], &case.room];
     assert_eq!(case.record(), parts.concat());
     assert_eq!(case.record().len(), RECORD);
+    let tasks = [Task::Add, Task::Read, Task::IsSession, Task::Open];
+    for (whole, numbers) in [(false, [1, 2, 3, 4]), (true, [5, 6, 3, 7])] {
+        for (task, number) in tasks.into_iter().zip(numbers) {
+            (case.task, case.whole) = (task, whole);
+            assert_eq!(case.record()[0], number);
+        }
+    }
+}
+
+/// The mode stands in front, and the waiting room goes on.
+#[test]
+fn lines_of_whole_sessions_have_their_fields() {
+    let mut session = Session {
+        mode: SinglePipe,
+        bits: 256,
+        taken: 224 + 223,
+        ..BLANK
+    };
+    session.waiting[222] = 0x0f;
+    let case = |task, length| Case {
+        task,
+        whole: true,
+        length,
+        session: session.clone(),
+        room: [0xee; ROOM],
+    };
+    let zeros = "0".repeat(444);
+    let kept = format!("1 256 447 {} {} {zeros}0f00", &zeros[..32], &zeros[..256]);
+    assert_eq!(case(Task::Add, 0).line(), format!("0 {kept}\n"));
+    assert_eq!(case(Task::Read, 2).line(), format!("5 {kept} eeee\n"));
+    assert_eq!(case(Task::IsSession, 0).line(), "yes\n");
+    let opened = case(Task::Open, 16).line();
+    let begin = format!("0 1 256 0 {} 0001", &zeros[..32]);
+    assert!(opened.starts_with(&begin));
+    // A refused opening hands out the blank session, which is in double-pipe.
+    let blank = format!("0 0 0 {} {} {zeros}0000", &zeros[..32], &zeros[..256]);
+    assert_eq!(case(Task::Open, 15).line(), format!("2 {blank}\n"));
 }
 
 #[test]
@@ -89,6 +158,7 @@ fn lines_have_their_fields() {
     session.salt[15] = 0xa0;
     let case = |task, length| Case {
         task,
+        whole: false,
         length,
         session: session.clone(),
         room: [0xee; ROOM],
@@ -109,7 +179,6 @@ fn lines_have_their_fields() {
 
 #[test]
 fn refusals_are_those_of_the_table() {
-    let mut counts = [0; 6];
     for case in cases() {
         let number = refusals(&case).first().copied().unwrap_or(0);
         assert_eq!(case.answer().number, number);
@@ -118,13 +187,48 @@ fn refusals_are_those_of_the_table() {
             assert_eq!(case.line(), if yes { "yes\n" } else { "no\n" });
         } else {
             assert!(case.line().starts_with(&format!("{number} ")));
-            counts[number as usize] += 1;
         }
     }
     // Done are, in each family, 5 from an opening, 2 to the limit, 15 readings
-    // and 16 pieces, and one opening more. The 23 records that are no session are
-    // refused once each, and in 10 pairs.
-    assert_eq!(counts, [2 * (5 + 2 + 15 + 16) + 1, 3, 2, 23 + 10, 6, 6]);
+    // and 16 pieces, and one opening more; and where the mode is told, 6 openings.
+    // The records that are no session are refused once each, and in 10 pairs.
+    let mut numbers = Vec::new();
+    for ((mode, whole), openings, records) in
+        [(GROUPS[0], 0, 23), (GROUPS[1], 6, 23), (GROUPS[2], 6, 33)]
+    {
+        let mut counts = [0; 6];
+        for case in group(mode, whole) {
+            if case.task != Task::IsSession {
+                counts[usize::from(case.answer().number)] += 1;
+            }
+        }
+        let done = 2 * (5 + 2 + 15 + 16 + openings) + 1;
+        assert_eq!(counts, [done, 3, 2, records + 10, 6, 6]);
+        numbers.push(counts.iter().sum::<usize>());
+    }
+    assert_eq!(numbers, [127, 139, 149]);
+}
+
+/// Four of six are no session, for the chaining value or the waiting bytes.
+#[test]
+fn sessions_of_the_other_mode_are_asked_about() {
+    let mut cases = cases();
+    let met: Vec<Vec<&str>> = cases
+        .split_off(cases.len() - 18)
+        .chunks(3)
+        .map(|cases| {
+            let session = &cases[0].session;
+            assert!(cases.iter().all(|case| case.session == *session));
+            let refused = !reasons(session).is_empty();
+            assert_eq!(cases[0].line(), if refused { "no\n" } else { "yes\n" });
+            let number = if refused { 3 } else { 0 };
+            assert!(cases[1..].iter().all(|case| case.answer().number == number));
+            reasons(session)
+        })
+        .collect();
+    let [chaining, waiting, none] = [vec!["chaining"], vec!["waiting"], vec![]];
+    let expected = [&chaining, &chaining, &waiting, &waiting, &none, &none];
+    assert!(met.iter().eq(expected));
 }
 
 #[test]
@@ -144,7 +248,8 @@ fn a_refusal_hands_everything_back_as_it_came() {
 
 #[test]
 fn a_reading_changes_its_room_and_nothing_else() {
-    for case in [done(Task::Read, 192), done(Task::Read, 128)].concat() {
+    let readings = families_of_groups().flat_map(|(group, b)| done(group, Task::Read, b));
+    for case in readings {
         let answer = case.answer();
         let size = case.session.bits as usize / 8;
         assert_eq!(answer.session, case.session);
@@ -155,42 +260,96 @@ fn a_reading_changes_its_room_and_nothing_else() {
 
 #[test]
 fn each_record_is_no_session_for_one_reason() {
-    let records = no_sessions::records(&mut Generator::new(5));
-    let mut counts = [0; 4];
-    for session in records {
-        let reasons = reasons(&session);
-        assert_eq!(reasons.len(), 1);
-        let names = ["bits", "taken", "waiting", "chaining"];
-        let which = names.iter().position(|name| *name == reasons[0]);
-        counts[which.expect("one of the four")] += 1;
-    }
+    let generator = &mut Generator::new(5);
     // The blank session is one of those with a wrong digest length.
-    assert_eq!(counts, [1 + 8, 4, 8, 2]);
+    for (records, expected) in [
+        (no_sessions::records(generator), [1 + 8, 4, 8, 2]),
+        (
+            near_sessions::records(generator, DoublePipe),
+            [1 + 8, 4, 8, 2],
+        ),
+        (
+            near_sessions::records(generator, SinglePipe),
+            [1 + 8, 4, 12, 8],
+        ),
+    ] {
+        let mut counts = [0; 4];
+        for session in records {
+            let reasons = reasons(&session);
+            assert_eq!(reasons.len(), 1);
+            let names = ["bits", "taken", "waiting", "chaining"];
+            let which = names.iter().position(|name| *name == reasons[0]);
+            counts[which.expect("one of the four")] += 1;
+        }
+        assert_eq!(counts, expected);
+    }
+}
+
+/// Places of the waiting room past 192, which only single-pipe up to 256 bits has a
+/// use for, and of the chaining room past 32 and past 64.
+#[test]
+fn rooms_that_are_not_in_use_are_met_to_their_ends() {
+    let mut met = HashSet::new();
+    for mode in MODES {
+        for session in near_sessions::records(&mut Generator::new(9), mode) {
+            let family = block(mode, session.bits);
+            let last = |room: &[u8]| room.iter().rposition(|byte| *byte != 0);
+            for reason in reasons(&session) {
+                let room = match reason {
+                    "waiting" => &session.waiting[..],
+                    "chaining" => &session.chaining,
+                    _ => continue,
+                };
+                met.insert((reason, mode.number(), family, last(room)));
+            }
+        }
+    }
+    for (reason, mode, family, place) in [
+        ("waiting", 0, 192, 192),
+        ("waiting", 0, 192, 223),
+        ("waiting", 0, 128, 192),
+        ("waiting", 0, 128, 223),
+        ("waiting", 1, 192, 192),
+        ("waiting", 1, 192, 223),
+        ("waiting", 1, 224, 223),
+        ("chaining", 0, 192, 64),
+        ("chaining", 0, 192, 127),
+        ("chaining", 1, 192, 64),
+        ("chaining", 1, 192, 127),
+        ("chaining", 1, 224, 32),
+        ("chaining", 1, 224, 127),
+    ] {
+        assert!(met.contains(&(reason, mode, family, Some(place))));
+    }
 }
 
 #[test]
 fn every_pair_of_refusals_is_met() {
-    let pairs: Vec<Vec<u8>> = refused::cases(&mut Generator::new(5), DoublePipe)
-        .iter()
-        .map(refusals)
-        .filter(|numbers| numbers.len() > 1)
-        .collect();
-    for (pair, count) in [([1, 2], 1), ([3, 4], 5), ([3, 5], 5)] {
-        let met = pairs.iter().filter(|numbers| **numbers == pair);
-        assert_eq!(met.count(), count);
+    for mode in MODES {
+        let pairs: Vec<Vec<u8>> = refused::cases(&mut Generator::new(5), mode)
+            .iter()
+            .map(refusals)
+            .filter(|numbers| numbers.len() > 1)
+            .collect();
+        for (pair, count) in [([1, 2], 1), ([3, 4], 5), ([3, 5], 5)] {
+            let met = pairs.iter().filter(|numbers| **numbers == pair);
+            assert_eq!(met.count(), count);
+        }
+        assert_eq!(pairs.len(), 11);
     }
-    assert_eq!(pairs.len(), 11);
 }
 
 #[test]
 fn both_sides_of_the_limit_are_met() {
     let over = |case: &Case| case.session.taken + u64::from(case.length) - LIMIT;
-    let refused = cases();
-    let refused = refused.iter().filter(|case| refusals(case) == [4]);
-    let over: Vec<u64> = refused.map(over).collect();
-    assert_eq!(over, [1, 1, 1, 255, 1, 1]);
-    for b in [192, 128] {
-        let cases = done(Task::Add, b);
+    for (mode, whole) in GROUPS {
+        let refused = group(mode, whole);
+        let refused = refused.iter().filter(|case| refusals(case) == [4]);
+        let over: Vec<u64> = refused.map(over).collect();
+        assert_eq!(over, [1, 1, 1, 255, 1, 1]);
+    }
+    for (group, b) in families_of_groups() {
+        let cases = done(group, Task::Add, b);
         for empty in [true, false] {
             assert!(cases.iter().any(|case| {
                 let total = case.session.taken + u64::from(case.length);
@@ -202,10 +361,10 @@ fn both_sides_of_the_limit_are_met() {
 
 #[test]
 fn pieces_end_on_every_side_of_a_block() {
-    for b in [192, 128] {
+    for (group, b) in families_of_groups() {
         // Blocks that a piece fills, and bytes of it that wait then.
         let mut ends = HashSet::new();
-        for case in done(Task::Add, b) {
+        for case in done(group, Task::Add, b) {
             let in_use = case.session.taken % b;
             let bytes = in_use + u64::from(case.length);
             let answer = case.answer().session;
@@ -230,8 +389,8 @@ fn pieces_end_on_every_side_of_a_block() {
 
 #[test]
 fn readings_meet_every_row_of_counters() {
-    for b in [192, 128] {
-        let cases = done(Task::Read, b);
+    for (group, b) in families_of_groups() {
+        let cases = done(group, Task::Read, b);
         let met = |taken: u64| cases.iter().any(|case| case.session.taken == taken);
         for begin in [0, LIMIT - 107 - b] {
             for used in [b - 19, b - 18, b - 1, b] {
@@ -251,13 +410,13 @@ fn readings_meet_every_row_of_counters() {
 
 #[test]
 fn from_an_opening_the_readings_are_digests() {
-    for lengths in FAMILIES {
+    for lengths in MODES.into_iter().flat_map(families) {
         let cases = from_an_opening(&mut Generator::new(5), &lengths);
         let (bits, salt) = (lengths.bits[4], cases[0].session.salt);
         let mut message = Vec::new();
         for pair in cases[1..].chunks(2) {
             message.extend(&pair[0].room[..usize::from(pair[0].length)]);
-            let expected = digest::digest(DoublePipe, bits, &salt, &message);
+            let expected = digest::digest(lengths.mode, bits, &salt, &message);
             assert_eq!(pair[1].answer().room[..expected.len()], expected);
         }
         assert_eq!(message.len() as u64, lengths.block + 22);
@@ -266,7 +425,7 @@ fn from_an_opening_the_readings_are_digests() {
 
 #[test]
 fn a_case_follows_on_the_session_before_it() {
-    for lengths in FAMILIES {
+    for lengths in MODES.into_iter().flat_map(families) {
         let mut generator = Generator::new(5);
         for cases in [
             from_an_opening(&mut generator, &lengths),

@@ -249,5 +249,7 @@ fn yes_or_no(yes: bool) -> &'static str {
 
 /// The ten fields of a tag session.
 fn both(session: &TagSession) -> String {
-    [fields(&session.inner), fields(&session.outer)].join(" ")
+    [&session.inner, &session.outer]
+        .map(|session| fields(session, false))
+        .join(" ")
 }

@@ -11,6 +11,7 @@ mod refused;
 #[cfg(test)]
 mod tests;
 mod whole;
+mod with_mode;
 
 use crate::file::File;
 use crate::session_cases::forged::{last_edge, Lengths, FAMILIES};
@@ -53,6 +54,7 @@ fn cases() -> Vec<Case> {
     cases.extend(no_tag_sessions::cases(&mut generator));
     cases.extend(refused::cases(&mut generator));
     cases.extend(whole::every_piece(&mut generator));
+    cases.extend(with_mode::cases(&mut Generator::new(10)));
     cases
 }
 

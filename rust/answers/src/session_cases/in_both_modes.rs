@@ -27,7 +27,7 @@ pub fn cases(generator: &mut Generator) -> Vec<Case> {
     }
     cases.extend(in_the_other_mode(generator));
     for case in &mut cases {
-        case.whole = true;
+        case.with_mode = true;
     }
     cases
 }

@@ -28,7 +28,7 @@ pub enum Task {
 pub struct Case {
     pub task: Task,
     /// Whether the line tells the mode and all of the waiting room too.
-    pub whole: bool,
+    pub with_mode: bool,
     /// Bytes of the piece, the output room or the salt that are handed over.
     pub length: u8,
     pub session: Session,
@@ -49,7 +49,7 @@ impl Case {
     pub fn new(generator: &mut Generator, task: Task, length: u8, session: Session) -> Case {
         Case {
             task,
-            whole: false,
+            with_mode: false,
             length,
             session,
             room: generator.bytes(),
@@ -67,7 +67,7 @@ impl Case {
 
     /// The number of the task in the record.
     fn number(&self) -> u8 {
-        match (self.task, self.whole) {
+        match (self.task, self.with_mode) {
             (Task::Add, false) => 1,
             (Task::Read, false) => 2,
             (Task::IsSession, _) => 3,
@@ -103,7 +103,7 @@ impl Case {
     /// The line that the program has to print for the record.
     pub fn line(&self) -> String {
         let answer = self.answer();
-        let (number, session) = (answer.number, fields(&answer.session, self.whole));
+        let (number, session) = (answer.number, fields(&answer.session, self.with_mode));
         match self.task {
             Task::Add | Task::Open => format!("{number} {session}\n"),
             Task::Read => {
@@ -128,9 +128,9 @@ pub fn bytes(session: &Session) -> Vec<u8> {
     bytes
 }
 
-/// The fields of a session within a line: six if it is told as a whole. Else five,
-/// without the mode, and of the waiting room as much as double-pipe has use for.
-pub fn fields(session: &Session, whole: bool) -> String {
+/// The fields of a session within a line: six with the mode. Without it five, and of
+/// the waiting room as much as double-pipe has use for.
+pub fn fields(session: &Session, with_mode: bool) -> String {
     let Session {
         mode,
         bits,
@@ -139,10 +139,10 @@ pub fn fields(session: &Session, whole: bool) -> String {
         taken,
         waiting,
     } = session;
-    let waiting = if whole { waiting } else { &waiting[..192] };
+    let waiting = if with_mode { waiting } else { &waiting[..192] };
     let bytes = [&salt[..], chaining, waiting].map(hex::encode).join(" ");
     let fields = format!("{bits} {taken} {bytes}");
-    match whole {
+    match with_mode {
         true => format!("{} {fields}", mode.number()),
         false => fields,
     }

@@ -57,10 +57,10 @@ fn holding<T, const N: usize>(conditions: [(T, bool); N]) -> Vec<T> {
 const GROUPS: [(Mode, bool); 3] = [(DoublePipe, false), (DoublePipe, true), (SinglePipe, true)];
 
 /// The cases of a group, but for sessions that come from the other mode.
-fn group(mode: Mode, whole: bool) -> Vec<Case> {
+fn group(mode: Mode, with_mode: bool) -> Vec<Case> {
     let mut cases = cases();
     cases.truncate(cases.len() - 18);
-    cases.retain(|case| (case.session.mode, case.whole) == (mode, whole));
+    cases.retain(|case| (case.session.mode, case.with_mode) == (mode, with_mode));
     cases
 }
 
@@ -86,7 +86,7 @@ fn families_of_groups() -> impl Iterator<Item = ((Mode, bool), u64)> {
 fn records_have_their_layout() {
     let mut case = Case {
         task: Task::Read,
-        whole: false,
+        with_mode: false,
         length: 3,
         session: Session {
             mode: SinglePipe,
@@ -109,9 +109,9 @@ fn records_have_their_layout() {
     assert_eq!(case.record(), parts.concat());
     assert_eq!(case.record().len(), RECORD);
     let tasks = [Task::Add, Task::Read, Task::IsSession, Task::Open];
-    for (whole, numbers) in [(false, [1, 2, 3, 4]), (true, [5, 6, 3, 7])] {
+    for (with_mode, numbers) in [(false, [1, 2, 3, 4]), (true, [5, 6, 3, 7])] {
         for (task, number) in tasks.into_iter().zip(numbers) {
-            (case.task, case.whole) = (task, whole);
+            (case.task, case.with_mode) = (task, with_mode);
             assert_eq!(case.record()[0], number);
         }
     }
@@ -119,7 +119,7 @@ fn records_have_their_layout() {
 
 /// The mode stands in front, and the waiting room goes on.
 #[test]
-fn lines_of_whole_sessions_have_their_fields() {
+fn lines_with_the_mode_have_their_fields() {
     let mut session = Session {
         mode: SinglePipe,
         bits: 256,
@@ -129,7 +129,7 @@ fn lines_of_whole_sessions_have_their_fields() {
     session.waiting[222] = 0x0f;
     let case = |task, length| Case {
         task,
-        whole: true,
+        with_mode: true,
         length,
         session: session.clone(),
         room: [0xee; ROOM],
@@ -158,7 +158,7 @@ fn lines_have_their_fields() {
     session.salt[15] = 0xa0;
     let case = |task, length| Case {
         task,
-        whole: false,
+        with_mode: false,
         length,
         session: session.clone(),
         room: [0xee; ROOM],
@@ -193,11 +193,11 @@ fn refusals_are_those_of_the_table() {
     // and 16 pieces, and one opening more; and where the mode is told, 6 openings.
     // The records that are no session are refused once each, and in 10 pairs.
     let mut numbers = Vec::new();
-    for ((mode, whole), openings, records) in
+    for ((mode, with_mode), openings, records) in
         [(GROUPS[0], 0, 23), (GROUPS[1], 6, 23), (GROUPS[2], 6, 33)]
     {
         let mut counts = [0; 6];
-        for case in group(mode, whole) {
+        for case in group(mode, with_mode) {
             if case.task != Task::IsSession {
                 counts[usize::from(case.answer().number)] += 1;
             }
@@ -342,8 +342,8 @@ fn every_pair_of_refusals_is_met() {
 #[test]
 fn both_sides_of_the_limit_are_met() {
     let over = |case: &Case| case.session.taken + u64::from(case.length) - LIMIT;
-    for (mode, whole) in GROUPS {
-        let refused = group(mode, whole);
+    for (mode, with_mode) in GROUPS {
+        let refused = group(mode, with_mode);
         let refused = refused.iter().filter(|case| refusals(case) == [4]);
         let over: Vec<u64> = refused.map(over).collect();
         assert_eq!(over, [1, 1, 1, 255, 1, 1]);

@@ -15,15 +15,18 @@ use seeded::Generator;
 pub fn cases(generator: &mut Generator) -> Vec<Case> {
     let mut cases = Vec::new();
     for session in records(generator) {
-        for turn in 0..4 {
-            cases.push(case(generator, session.clone(), turn));
-        }
+        cases.extend(tried(generator, session));
     }
     for place in 0..16 {
         let session = salts_differ(generator, place);
         cases.push(case(generator, session, place));
     }
     cases
+}
+
+/// A record with each of four tasks.
+pub fn tried(generator: &mut Generator, session: TagSession) -> [Case; 4] {
+    [0, 1, 2, 3].map(|turn| case(generator, session.clone(), turn))
 }
 
 /// A case with one of four tasks: pieces are empty or one byte, rooms enough for

@@ -16,20 +16,20 @@ pub const ROOM: usize = 255;
 /// The most bytes of a key, and of a message.
 pub const MOST: u16 = 1024;
 
-/// What is asked for; the numbers stand in the record.
+/// What is asked for.
 #[derive(Debug, Clone, Copy, PartialEq, Eq)]
 pub enum Task {
     /// The tag of a whole message, and two checks of it.
-    Whole = 1,
+    Whole,
     /// Opens a tag session.
-    Open = 2,
+    Open,
     /// Adds a piece.
-    Add = 3,
+    Add,
     /// Reads the tag.
-    Read = 4,
-    IsSession = 5,
+    Read,
+    IsSession,
     /// Checks a tag.
-    Check = 6,
+    Check,
 }
 
 /// A case: all that a task may be handed over. What it has no use for is filled
@@ -37,6 +37,9 @@ pub enum Task {
 #[derive(Clone)]
 pub struct Case {
     pub task: Task,
+    /// Whether the line tells the mode and all of the waiting room of each session
+    /// that was handed over.
+    pub with_mode: bool,
     /// Bytes of the piece, the output room or the tag that are handed over.
     pub length: u8,
     /// The digest length.
@@ -111,6 +114,7 @@ impl Case {
     fn filled(generator: &mut Generator) -> Case {
         Case {
             task: Task::Whole,
+            with_mode: false,
             length: generator.below(256) as u8,
             bits: 128 + 8 * generator.below(49),
             key_length: generator.below(u64::from(MOST) + 1) as u16,
@@ -124,6 +128,21 @@ impl Case {
         }
     }
 
+    /// The number of the task in the record.
+    fn number(&self) -> u8 {
+        match (self.task, self.with_mode) {
+            (Task::Whole, _) => 1,
+            (Task::Open, _) => 2,
+            (Task::Add, false) => 3,
+            (Task::Read, false) => 4,
+            (Task::IsSession, _) => 5,
+            (Task::Check, false) => 6,
+            (Task::Add, true) => 7,
+            (Task::Read, true) => 8,
+            (Task::Check, true) => 9,
+        }
+    }
+
     /// What stands behind the header of a case on a tag session.
     pub fn on_mut(&mut self) -> &mut On {
         self.on.as_mut().expect("a case on a tag session")
@@ -132,7 +151,7 @@ impl Case {
     /// The record. Numbers have their least significant byte first.
     pub fn record(&self) -> Vec<u8> {
         let mut record = Vec::with_capacity(HEADER);
-        record.extend([self.task as u8, self.length]);
+        record.extend([self.number(), self.length]);
         record.extend(self.bits.to_le_bytes());
         for number in [self.key_length, self.message_length, self.piece] {
             record.extend(number.to_le_bytes());
@@ -213,7 +232,8 @@ impl Case {
     /// The line that the program has to print for the record.
     pub fn line(&self) -> String {
         let answer = self.answer();
-        let (number, session) = (answer.number, both(&answer.session));
+        let with_mode = self.with_mode && self.task != Task::Open;
+        let (number, session) = (answer.number, both(&answer.session, with_mode));
         match self.task {
             Task::Whole => self.whole_line(),
             Task::Open | Task::Add => format!("{number} {session}\n"),
@@ -247,9 +267,9 @@ fn yes_or_no(yes: bool) -> &'static str {
     }
 }
 
-/// The ten fields of a tag session.
-fn both(session: &TagSession) -> String {
+/// The fields of a tag session: ten, or with the modes twelve.
+fn both(session: &TagSession, with_mode: bool) -> String {
     [&session.inner, &session.outer]
-        .map(|session| fields(session, false))
+        .map(|session| fields(session, with_mode))
         .join(" ")
 }

@@ -1,12 +1,13 @@
 mod no_tag_sessions;
 mod on_sessions;
 mod whole;
+mod with_mode;
 
 use super::record::{On, HEADER, MOST, ROOM};
 use super::*;
 use plain::digest::digest;
 use plain::hex;
-use plain::mode::Mode::SinglePipe;
+use plain::mode::Mode::{DoublePipe, SinglePipe};
 use plain::session::{self, Session};
 
 /// The most bytes of a message: 2^61 - 21.
@@ -19,13 +20,30 @@ fn admitted(bits: u64) -> bool {
     (16..=64).any(|bytes| 8 * bytes == bits)
 }
 
-/// Bytes of a block, by the family.
+/// Bytes of a block in double-pipe, by the family.
 fn block(bits: u64) -> u64 {
     if bits <= 256 {
         192
     } else {
         128
     }
+}
+
+/// The same by the mode of a session: in single-pipe, half of the chaining value is
+/// the block's.
+fn block_of(session: &Session) -> u64 {
+    let double = block(session.bits);
+    match session.mode {
+        DoublePipe => double,
+        SinglePipe => double + (256 - double) / 2,
+    }
+}
+
+/// The cases whose lines do not tell the mode.
+fn without_mode() -> Vec<Case> {
+    let mut cases = cases();
+    cases.retain(|case| !case.with_mode);
+    cases
 }
 
 fn holding<T>(conditions: impl IntoIterator<Item = (T, bool)>) -> Vec<T> {
@@ -38,13 +56,14 @@ fn digest_reasons(session: &Session) -> Vec<&'static str> {
     if !admitted(session.bits) {
         return vec!["bits"];
     }
-    let short = session.bits <= 256;
-    let in_use = session.taken % block(session.bits);
+    let b = block_of(session);
+    let in_use = session.taken % b;
     let waits = |place: usize| session.waiting[place] != 0 && place as u64 >= in_use;
+    let chained = |place: usize| session.chaining[place] != 0 && place as u64 >= 256 - b;
     holding([
         ("limit", session.taken > LIMIT),
         ("waiting", (0..224).any(waits)),
-        ("chaining", short && session.chaining[64..] != [0; 64]),
+        ("chaining", (0..128).any(chained)),
     ])
 }
 
@@ -59,6 +78,8 @@ fn reasons(session: &TagSession) -> Vec<String> {
     let b = block(outer.bits);
     let sized = admitted(inner.bits) && admitted(outer.bits);
     let wrong = [
+        ("inner mode", inner.mode != DoublePipe),
+        ("outer mode", outer.mode != DoublePipe),
         ("bits differ", inner.bits != outer.bits),
         ("salts differ", inner.salt != outer.salt),
         ("inner taken", sized && inner.taken < b),
@@ -118,6 +139,7 @@ fn counted(first: u8) -> Session {
 fn records_have_their_layout() {
     let mut case = Case {
         task: Task::Check,
+        with_mode: false,
         length: 7,
         bits: 0x0908_0706_0504_0302,
         key_length: 0x0b0a,
@@ -151,6 +173,51 @@ fn records_have_their_layout() {
     record.extend([0xee; 255]);
     assert_eq!(case.record(), record);
     assert_eq!((HEADER, RECORD), (40, record.len()));
+    let tasks = [
+        (Task::Whole, [1, 1]),
+        (Task::Open, [2, 2]),
+        (Task::Add, [3, 7]),
+        (Task::Read, [4, 8]),
+        (Task::IsSession, [5, 5]),
+        (Task::Check, [6, 9]),
+    ];
+    for (task, numbers) in tasks {
+        for (with_mode, number) in [false, true].into_iter().zip(numbers) {
+            (case.task, case.with_mode) = (task, with_mode);
+            assert_eq!(case.record()[0], number);
+        }
+    }
+}
+
+/// The mode stands in front of each session, and the waiting room goes on.
+#[test]
+fn lines_with_the_mode_have_their_fields() {
+    let zeros = "0".repeat(448);
+    let mut session = BLANK;
+    for part in [&mut session.inner, &mut session.outer] {
+        (part.bits, part.taken) = (256, 192);
+    }
+    let fields = |mode: u8, last: &str| {
+        let (salt, chaining) = (&zeros[..32], &zeros[..256]);
+        format!("{mode} 256 192 {salt} {chaining} {}{last}", &zeros[..446])
+    };
+    let case = |task, length, session: &TagSession| {
+        let mut case = Case::on(&mut Generator::new(6), task, length, session.clone());
+        (case.with_mode, case.on_mut().room) = (true, [0xee; ROOM]);
+        case.line()
+    };
+    let kept = format!("{} {}", fields(0, "00"), fields(0, "00"));
+    assert_eq!(case(Task::Add, 0, &session), format!("0 {kept}\n"));
+    assert_eq!(case(Task::Read, 2, &session), format!("5 {kept} eeee\n"));
+    assert_eq!(case(Task::Check, 32, &session), format!("0 no {kept}\n"));
+    assert_eq!(case(Task::IsSession, 0, &session), "yes\n");
+    session.inner.waiting[223] = 0xa0;
+    session.outer.mode = SinglePipe;
+    let kept = format!("{} {}", fields(0, "a0"), fields(1, "00"));
+    assert_eq!(case(Task::Add, 0, &session), format!("3 {kept}\n"));
+    assert_eq!(case(Task::Read, 1, &session), format!("3 {kept} ee\n"));
+    assert_eq!(case(Task::Check, 0, &session), format!("3 no {kept}\n"));
+    assert_eq!(case(Task::IsSession, 0, &session), "no\n");
 }
 
 #[test]
@@ -234,6 +301,6 @@ fn the_files_hold_every_case() {
     let files = files();
     let bytes = HEADER * (cases.len() - on_sessions) + RECORD * on_sessions;
     assert_eq!(files[0].bytes.len(), bytes);
-    assert!(bytes < 300_000);
+    assert!(bytes < 420_000);
     assert_eq!(files[1].lines(), cases.len());
 }

@@ -8,7 +8,7 @@ fn on(case: &Case) -> &On {
 
 /// The cases of a task that are done, in the family of a block size.
 fn done(task: Task, b: u64) -> Vec<Case> {
-    let mut cases = cases();
+    let mut cases = without_mode();
     cases.retain(|case| {
         let same = case.task == task && refusals(case).is_empty();
         same && block(on(case).session.inner.bits) == b
@@ -18,7 +18,7 @@ fn done(task: Task, b: u64) -> Vec<Case> {
 
 #[test]
 fn refusals_are_those_of_the_table() {
-    let mut counts = [0; 6];
+    let mut counts = [[0; 6]; 2];
     for case in cases() {
         let number = refusals(&case).first().copied().unwrap_or(0);
         match case.task {
@@ -30,7 +30,7 @@ fn refusals_are_those_of_the_table() {
             _ => {
                 assert_eq!(case.answer().number, number);
                 assert!(case.line().starts_with(&format!("{number} ")));
-                counts[usize::from(number)] += 1;
+                counts[usize::from(case.with_mode)][usize::from(number)] += 1;
             }
         }
     }
@@ -39,8 +39,11 @@ fn refusals_are_those_of_the_table() {
     // that are no tag session are refused three times, 12 of those whose salts
     // differ once, and 8 in pairs.
     let refused = [6 + 2, 4, 3 * 24 + 12 + 8, 4, 4];
-    assert_eq!(counts[0], 2 * (6 + 7 + 2 + 10 + 9 + 10));
-    assert_eq!(counts[1..], refused);
+    assert_eq!(counts[0][0], 2 * (6 + 7 + 2 + 10 + 9 + 10));
+    assert_eq!(counts[0][1..], refused);
+    // With the mode, openings and checks of their own are left out, and the 16
+    // records that are no tag session are refused three times.
+    assert_eq!(counts[1], [2 * (7 + 2 + 10 + 9), 0, 0, 3 * 16, 0, 0]);
 }
 
 #[test]
@@ -124,7 +127,7 @@ fn every_pair_of_refusals_is_met() {
 #[test]
 fn both_sides_of_the_limit_are_met() {
     let total = |case: &Case| on(case).session.inner.taken + u64::from(case.length);
-    let mut over = cases();
+    let mut over = without_mode();
     over.retain(|case| refusals(case) == [4]);
     let over: Vec<u64> = over.iter().map(|case| total(case) - LIMIT).collect();
     assert_eq!(over, [1, 1, 255, 1]);

@@ -1,5 +1,9 @@
 /* ECHO 2.0 digests, its round mixing forward and backward, fingerprints of steering tables, and tags of messages under a key.
  *
+ * Digests and compression come in two modes (enum bahmorist_mode). ECHO itself is double-pipe: its chaining value is at least twice as long as
+ * the digest. Single-pipe, section 5 of the paper, halves the chaining value and takes longer blocks instead, for less state and less time.
+ * Functions that take no mode are double-pipe.
+ *
  * Link target/staticlib/libbahmorist.a, which `rt staticlib bahmorist` makes for x86-64 Linux; `tools/library` makes
  * target/native/libbahmorist.a for the machine at hand. The library keeps nothing between calls, allocates nothing and may be called from
  * several threads at once. As it is compiled today no call takes more than 8,000 bytes of stack, and those that make and check tags no more
@@ -24,8 +28,8 @@
 #include <stddef.h>
 #include <stdint.h>
 
-#define BAHMORIST_VERSION "0.4.0"
-#define BAHMORIST_VERSION_NUMBER 400 /* 10,000 times the first part, 100 times the second and the third, added up */
+#define BAHMORIST_VERSION "0.5.0"
+#define BAHMORIST_VERSION_NUMBER 500 /* 10,000 times the first part, 100 times the second and the third, added up */
 
 #define BAHMORIST_SALT_BYTES 16
 #define BAHMORIST_SQUARE_BYTES 256
@@ -40,12 +44,19 @@ enum bahmorist_refusal {
     BAHMORIST_REFUSED_SALT = 2,          /* the salt is not 16 bytes */
     BAHMORIST_REFUSED_MESSAGE = 4,       /* the message is over 2^61 - 21 bytes; for a tag, the key is, or one block and the message are */
     BAHMORIST_REFUSED_ROOM = 5,          /* the output room is under bits / 8 bytes, or under 32 for a fingerprint */
-    BAHMORIST_REFUSED_SHAPE = 6,         /* chaining and block sizes are neither 64 and 192 nor 128 and 128; the square is not 256 bytes; the
-                                            round count is not 8 or 10 */
+    BAHMORIST_REFUSED_SHAPE = 6,         /* the mode is neither 0 nor 1; chaining and block sizes are not the mode's: 64 and 192 or 128 and 128
+                                            in double-pipe, 32 and 224 or 64 and 192 in single-pipe; the square is not 256 bytes; the round
+                                            count is not 8 or 10 */
     BAHMORIST_REFUSED_COUNTER = 7,       /* the starting counter is above 2^64 - 161 */
     BAHMORIST_REFUSED_TABLE = 8,         /* the table is over 4,096 bytes */
     BAHMORIST_REFUSED_KIND = 9,          /* unknown kind byte in the table */
     BAHMORIST_REFUSED_CUT_SHORT = 10     /* record of the table cut short */
+};
+
+/* How long chaining value and block are, in bytes, for digests up to 256 bits and above: with 8 rounds and with 10. */
+enum bahmorist_mode {
+    BAHMORIST_DOUBLE_PIPE = 0, /* 64 and 192; 128 and 128 */
+    BAHMORIST_SINGLE_PIPE = 1  /* 32 and 224; 64 and 192 */
 };
 
 /* A record of a steering table is one of these kind bytes and a body of so many bytes, its numbers with the most significant byte first. */
@@ -81,6 +92,10 @@ extern "C" {
 BAHMORIST_LOOK_AT uint8_t bahmorist_digest(uint64_t bits, const uint8_t *salt, size_t salt_len, const uint8_t *message, size_t message_len,
                                            uint8_t *out, size_t out_len);
 
+/* The same in a mode of enum bahmorist_mode, of which 0 gives what bahmorist_digest gives. Refuses by 1, 2, 4, 5 or 6. */
+BAHMORIST_LOOK_AT uint8_t bahmorist_digest_in(uint8_t mode, uint64_t bits, const uint8_t *salt, size_t salt_len, const uint8_t *message,
+                                              size_t message_len, uint8_t *out, size_t out_len);
+
 /* Rewrites the square by 8 or 10 of ECHO's rounds, whose inner counter starts at counter. Refuses by 2, 6 or 7. */
 BAHMORIST_LOOK_AT uint8_t bahmorist_rounds(uint8_t *square, size_t square_len, uint64_t rounds, uint64_t counter, const uint8_t *salt,
                                            size_t salt_len);
@@ -94,6 +109,11 @@ BAHMORIST_LOOK_AT uint8_t bahmorist_rounds_back(uint8_t *square, size_t square_l
 BAHMORIST_LOOK_AT uint8_t bahmorist_compress(uint8_t *chaining, size_t chaining_len, const uint8_t *block, size_t block_len, uint64_t counter,
                                              const uint8_t *salt, size_t salt_len);
 
+/* The same in a mode of enum bahmorist_mode, of which 0 gives what bahmorist_compress gives; in single-pipe with 8 rounds where the chaining
+ * value is 32 bytes and 10 where it is 64. Refuses by 2, 6 or 7. */
+BAHMORIST_LOOK_AT uint8_t bahmorist_compress_in(uint8_t mode, uint8_t *chaining, size_t chaining_len, const uint8_t *block, size_t block_len,
+                                                uint64_t counter, const uint8_t *salt, size_t salt_len);
+
 /* Puts the fingerprint of a steering table, 32 bytes, at the front of out; bytes behind it stay. It is the 256-bit digest of the whole table,
  * kind bytes included. Refuses by 2, 5, 8, 9 or 10. place, which is not NULL, gets the place of the record's kind byte with 9 and 10, and
  * else 0. */
@@ -101,8 +121,8 @@ BAHMORIST_LOOK_AT uint8_t bahmorist_fingerprint(const uint8_t *salt, size_t salt
                                                 size_t out_len, uint64_t *place);
 
 /* Puts the tag of the message under the key, bits / 8 bytes, at the front of out; bytes behind it stay. It is HMAC by FIPS 198-1 over the ECHO
- * digest of so many bits under the salt, whose blocks are 192 bytes up to 256 bits and 128 above. A key may have any length. Refuses by 1, 2, 4
- * or 5. */
+ * digest of so many bits under the salt, in double-pipe, whose blocks are 192 bytes up to 256 bits and 128 above. A key may have any length.
+ * Refuses by 1, 2, 4 or 5. */
 BAHMORIST_LOOK_AT uint8_t bahmorist_hmac(uint64_t bits, const uint8_t *salt, size_t salt_len, const uint8_t *key, size_t key_len,
                                          const uint8_t *message, size_t message_len, uint8_t *out, size_t out_len);
 

@@ -29,6 +29,17 @@ extern "C" {
         out_len: usize,
     ) -> u8;
 
+    pub fn bahmorist_digest_in(
+        mode: u8,
+        bits: u64,
+        salt: *const u8,
+        salt_len: usize,
+        message: *const u8,
+        message_len: usize,
+        out: *mut u8,
+        out_len: usize,
+    ) -> u8;
+
     pub fn bahmorist_hmac(
         bits: u64,
         salt: *const u8,
@@ -73,6 +84,17 @@ extern "C" {
     ) -> u8;
 
     pub fn bahmorist_compress(
+        chaining: *mut u8,
+        chaining_len: usize,
+        block: *const u8,
+        block_len: usize,
+        counter: u64,
+        salt: *const u8,
+        salt_len: usize,
+    ) -> u8;
+
+    pub fn bahmorist_compress_in(
+        mode: u8,
         chaining: *mut u8,
         chaining_len: usize,
         block: *const u8,

@@ -1,6 +1,6 @@
-//! ECHO 2.0 digests, tags of messages under a key, the round mixing below them,
-//! and fingerprints of steering tables, by the proved library: a safe face of its
-//! C functions, which `include/bahmorist.h` describes.
+//! ECHO 2.0 digests in both modes, tags of messages under a key, the round mixing
+//! below them, and fingerprints of steering tables, by the proved library: a safe
+//! face of its C functions, which `include/bahmorist.h` describes.
 //!
 //! Every number and every length is checked by the library itself. A call that
 //! is refused writes nothing. Nothing is allocated and nothing is kept between
@@ -17,13 +17,15 @@
 extern crate std;
 
 mod face;
+mod mode;
 mod refusal;
 
+pub use mode::Mode;
 pub use refusal::{Refusal, RefusedTable};
 
-/// Puts the digest of a message, `bits` / 8 bytes, at the front of `out`; bytes
-/// behind it stay. The salt is sixteen zeros where there is none. Refuses by 1,
-/// 2, 4 or 5.
+/// Puts the digest of a message in double-pipe, `bits` / 8 bytes, at the front of
+/// `out`; bytes behind it stay. The salt is sixteen zeros where there is none.
+/// Refuses by 1, 2, 4 or 5.
 ///
 /// The published digests of the empty message:
 ///
@@ -66,9 +68,60 @@ pub fn digest(bits: u64, salt: &[u8], message: &[u8], out: &mut [u8]) -> Result<
     })
 }
 
+/// Puts the digest of a message at the front of `out`, like [`digest`], in either
+/// mode. Refuses by 1, 2, 4 or 5.
+///
+/// ```
+/// use bahmorist::{digest, digest_in, Mode};
+///
+/// let (mut double, mut single, mut same) = ([0; 32], [0; 32], [0; 32]);
+/// digest(256, &[0; 16], b"abc", &mut double)?;
+/// digest_in(Mode::DoublePipe, 256, &[0; 16], b"abc", &mut same)?;
+/// assert_eq!(same, double);
+///
+/// digest_in(Mode::SinglePipe, 256, &[0; 16], b"abc", &mut single)?;
+/// assert_ne!(single, double);
+/// # Ok::<(), bahmorist::Refusal>(())
+/// ```
+///
+/// What is refused does not depend on the mode:
+///
+/// ```
+/// use bahmorist::{digest_in, Mode, Refusal};
+///
+/// let mut out = [7; 31];
+/// for mode in [Mode::DoublePipe, Mode::SinglePipe] {
+///     let refused = digest_in(mode, 256, &[0; 16], b"abc", &mut out);
+///     assert_eq!(refused, Err(Refusal::Room));
+/// }
+/// assert_eq!(out, [7; 31]);
+/// ```
+pub fn digest_in(
+    mode: Mode,
+    bits: u64,
+    salt: &[u8],
+    message: &[u8],
+    out: &mut [u8],
+) -> Result<(), Refusal> {
+    // SAFETY: each pointer comes with its slice's length; see `face`.
+    answer(unsafe {
+        face::bahmorist_digest_in(
+            mode.number(),
+            bits,
+            salt.as_ptr(),
+            salt.len(),
+            message.as_ptr(),
+            message.len(),
+            out.as_mut_ptr(),
+            out.len(),
+        )
+    })
+}
+
 /// Puts the tag of a message under a key, `bits` / 8 bytes, at the front of
 /// `out`; bytes behind it stay. It is HMAC of FIPS 198-1 over the digest of that
-/// length and salt; the key may have any length. Refuses by 1, 2, 4 or 5.
+/// length and salt in double-pipe; the key may have any length. Refuses by 1, 2, 4
+/// or 5.
 ///
 /// How long a call takes may depend on the key, since the substitution goes by
 /// tables: who can measure that, or shares the processor's cache, may learn
@@ -257,9 +310,9 @@ pub fn rounds_back(
     })
 }
 
-/// Rewrites a chaining value to the one after this block: 64 bytes and a block
-/// of 192 with 8 rounds, or 128 bytes and a block of 128 with 10. Refuses by 2, 6
-/// or 7.
+/// Rewrites a chaining value to the one after this block, in double-pipe: 64 bytes
+/// and a block of 192 with 8 rounds, or 128 bytes and a block of 128 with 10.
+/// Refuses by 2, 6 or 7.
 ///
 /// The empty message is one block of padding, with the counter 0, and its 256-bit
 /// digest is the front of the chaining value behind it:
@@ -299,9 +352,59 @@ pub fn compress(
     })
 }
 
+/// Rewrites a chaining value to the one after this block, in either mode: in
+/// double-pipe like [`compress`], and in single-pipe 32 bytes and a block of 224
+/// with 8 rounds, or 64 bytes and a block of 192 with 10. Refuses by 2, 6 or 7.
+///
+/// The empty message is one block of padding, with the counter 0, and in
+/// single-pipe its 256-bit digest is the chaining value behind it:
+///
+/// ```
+/// use bahmorist::{compress_in, digest_in, Mode, Refusal};
+///
+/// let mut chaining = [0; 32];
+/// for word in chaining.chunks_mut(16) {
+///     word[..2].copy_from_slice(&256u16.to_le_bytes());
+/// }
+/// let mut block = [0; 224];
+/// block[0] = 0x80;
+/// block[206..208].copy_from_slice(&256u16.to_le_bytes());
+/// compress_in(Mode::SinglePipe, &mut chaining, &block, 0, &[0; 16])?;
+///
+/// let mut digest = [0; 32];
+/// digest_in(Mode::SinglePipe, 256, &[0; 16], b"", &mut digest)?;
+/// assert_eq!(chaining, digest);
+///
+/// // These sizes are not those of the other mode.
+/// let refused = compress_in(Mode::DoublePipe, &mut chaining, &block, 0, &[0; 16]);
+/// assert_eq!(refused, Err(Refusal::Shape));
+/// # Ok::<(), Refusal>(())
+/// ```
+pub fn compress_in(
+    mode: Mode,
+    chaining: &mut [u8],
+    block: &[u8],
+    counter: u64,
+    salt: &[u8],
+) -> Result<(), Refusal> {
+    // SAFETY: each pointer comes with its slice's length; see `face`.
+    answer(unsafe {
+        face::bahmorist_compress_in(
+            mode.number(),
+            chaining.as_mut_ptr(),
+            chaining.len(),
+            block.as_ptr(),
+            block.len(),
+            counter,
+            salt.as_ptr(),
+            salt.len(),
+        )
+    })
+}
+
 /// Puts the fingerprint of a steering table, 32 bytes, at the front of `out`;
 /// bytes behind it stay. It is the 256-bit digest of the whole table, kind bytes
-/// included. Refuses by 2, 5, 8, 9 or 10.
+/// included, in double-pipe. Refuses by 2, 5, 8, 9 or 10.
 ///
 /// A node address, then the join floors at 2.4 and at 5 GHz:
 ///

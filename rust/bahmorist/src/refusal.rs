@@ -28,8 +28,10 @@ pub enum Refusal {
     Message = 4,
     /// The output room is smaller than what goes there.
     Room = 5,
-    /// Chaining and block sizes are neither 64 and 192 nor 128 and 128, the
-    /// square is not 256 bytes, or the round count is not 8 or 10.
+    /// Chaining and block sizes are not those of the mode, which are 64 and 192 or
+    /// 128 and 128 in double-pipe, and 32 and 224 or 64 and 192 in single-pipe; the
+    /// square is not 256 bytes; or the round count is not 8 or 10. The C functions
+    /// give it for a mode other than 0 and 1 too.
     Shape = 6,
     /// The starting counter is above 2^64 - 161.
     Counter = 7,
@@ -78,7 +80,9 @@ impl Display for Refusal {
                 "the message, or a key, or key block and message together, is over 2^61 - 21 bytes"
             }
             Refusal::Room => "the output room is too small",
-            Refusal::Shape => "sizes of no family, no square, or a round count other than 8 and 10",
+            Refusal::Shape => {
+                "no mode, sizes that are not the mode's, no square, or a round count other than 8 and 10"
+            }
             Refusal::Counter => "the starting counter is above 2^64 - 161",
             Refusal::Table => "the table is over 4096 bytes",
             Refusal::Kind => "unknown kind byte",

@@ -1,6 +1,6 @@
 //! `include/bahmorist.h` and this package say the same.
 
-use bahmorist::Refusal;
+use bahmorist::{Mode, Refusal};
 
 const HEADER: &str = include_str!("../../../include/bahmorist.h");
 
@@ -30,6 +30,39 @@ fn each_refusal_has_its_number_in_the_header() {
         .filter(|number| named.iter().all(|(_, named)| named != number))
         .collect();
     assert_eq!(left_out, [Refusal::Session.number(), 11]);
+}
+
+#[test]
+fn each_mode_has_its_number_in_the_header() {
+    let named: Vec<(&str, u8)> = numbers("BAHMORIST_")
+        .into_iter()
+        .filter(|(name, _)| name.ends_with("_PIPE"))
+        .collect();
+    let [double, single] = [Mode::DoublePipe, Mode::SinglePipe].map(Mode::number);
+    assert_eq!(named, [("DOUBLE_PIPE", double), ("SINGLE_PIPE", single)]);
+}
+
+/// The sizes beside each mode in the header are those that the library takes: the
+/// shorter chaining value first.
+#[test]
+fn each_mode_has_the_sizes_that_the_library_takes() {
+    for (mode, name) in [
+        (Mode::DoublePipe, "DOUBLE_PIPE"),
+        (Mode::SinglePipe, "SINGLE_PIPE"),
+    ] {
+        let line = HEADER.lines().find(|line| line.contains(name));
+        let (_, comment) = line.and_then(|line| line.split_once("/*")).expect("sizes");
+        let sizes: Vec<usize> = comment
+            .split(|c: char| !c.is_ascii_digit())
+            .filter_map(|digits| digits.parse().ok())
+            .collect();
+        assert_eq!(sizes.len(), 4);
+        for sizes in sizes.chunks(2) {
+            let (mut chaining, block) = (vec![0; sizes[0]], vec![0; sizes[1]]);
+            let taken = bahmorist::compress_in(mode, &mut chaining, &block, 0, &[0; 16]);
+            assert_eq!(taken, Ok(()), "{name}");
+        }
+    }
 }
 
 #[test]

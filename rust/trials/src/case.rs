@@ -9,8 +9,10 @@ use std::fmt::{self, Display, Formatter};
 /// A routine and the numbers it takes.
 #[derive(Debug, Clone, Copy, PartialEq, Eq)]
 pub enum Routine {
-    /// A digest at once.
+    /// A digest at once, by the function that takes no mode.
     Digest { bits: u64 },
+    /// The same in the mode of a number.
+    DigestIn { mode: u8, bits: u64 },
     /// A tag at once.
     Hmac { bits: u64 },
     /// A check of a tag.
@@ -19,8 +21,10 @@ pub enum Routine {
     Rounds { count: u64, counter: u64 },
     /// Rounds backward.
     RoundsBack { count: u64, counter: u64 },
-    /// A block taken into a chaining value.
+    /// A block taken into a chaining value, by the function that takes no mode.
     Compress { counter: u64 },
+    /// The same in the mode of a number.
+    CompressIn { mode: u8, counter: u64 },
     /// The fingerprint of a table.
     Fingerprint,
 }
@@ -104,12 +108,14 @@ impl Case {
     /// The inputs that are called square, message and so on for this routine.
     fn names(&self) -> (&'static str, &'static str, &'static str) {
         match self.routine {
-            Routine::Digest { .. } => ("digest", "message", "room"),
+            Routine::Digest { .. } | Routine::DigestIn { .. } => ("digest", "message", "room"),
             Routine::Hmac { .. } => ("tag", "message", "room"),
             Routine::HmacCheck { .. } => ("check", "message", "tag"),
             Routine::Rounds { .. } => ("rounds", "", "square"),
             Routine::RoundsBack { .. } => ("rounds backward", "", "square"),
-            Routine::Compress { .. } => ("compression", "block", "chaining value"),
+            Routine::Compress { .. } | Routine::CompressIn { .. } => {
+                ("compression", "block", "chaining value")
+            }
             Routine::Fingerprint => ("fingerprint", "table", "room"),
         }
     }
@@ -118,7 +124,10 @@ impl Case {
     fn reads_lent(&self) -> bool {
         !matches!(
             self.routine,
-            Routine::Digest { .. } | Routine::Hmac { .. } | Routine::Fingerprint
+            Routine::Digest { .. }
+                | Routine::DigestIn { .. }
+                | Routine::Hmac { .. }
+                | Routine::Fingerprint
         )
     }
 }
@@ -129,6 +138,7 @@ impl Display for Case {
         write!(to, "{name}, ")?;
         match self.routine {
             Routine::Digest { bits } => write!(to, "{bits} bits, ")?,
+            Routine::DigestIn { mode, bits } => write!(to, "mode {mode}, {bits} bits, ")?,
             Routine::Hmac { bits } | Routine::HmacCheck { bits } => {
                 write!(to, "{bits} bits, key {}, ", shown(&self.key))?
             }
@@ -136,6 +146,9 @@ impl Display for Case {
                 write!(to, "{count} of them, counter {counter}, ")?
             }
             Routine::Compress { counter } => write!(to, "counter {counter}, ")?,
+            Routine::CompressIn { mode, counter } => {
+                write!(to, "mode {mode}, counter {counter}, ")?
+            }
             Routine::Fingerprint => {}
         }
         write!(to, "salt {}, ", shown(&self.salt))?;

@@ -32,13 +32,38 @@ pub fn digest_lengths() -> impl Iterator<Item = u64> {
     (128..=512).step_by(8)
 }
 
-/// Bytes of a block.
+/// Bytes of a block in double-pipe.
 pub fn block(bits: u64) -> usize {
     if bits <= 256 {
         192
     } else {
         128
     }
+}
+
+/// The ways to a digest, each with the bytes of its block: the function that takes
+/// no mode, and the other in each mode.
+pub fn digests(bits: u64) -> [(Routine, usize); 3] {
+    let single = if bits <= 256 { 224 } else { 192 };
+    [
+        (Routine::Digest { bits }, block(bits)),
+        (Routine::DigestIn { mode: 0, bits }, block(bits)),
+        (Routine::DigestIn { mode: 1, bits }, single),
+    ]
+}
+
+/// The ways to a compression, each with the words of its chaining value.
+pub fn compressions(counter: u64) -> [(Routine, usize); 6] {
+    let without = Routine::Compress { counter };
+    let [double, single] = [0, 1].map(|mode| Routine::CompressIn { mode, counter });
+    [
+        (without, 4),
+        (without, 8),
+        (double, 4),
+        (double, 8),
+        (single, 2),
+        (single, 4),
+    ]
 }
 
 /// Lengths of a key: none, one byte, both sides of a block, and several blocks.
@@ -113,10 +138,10 @@ pub fn on_square(generator: &mut Generator, routine: Routine) -> Case {
     }
 }
 
-/// A compression with sizes of a family: four chaining words or eight.
-pub fn compression(generator: &mut Generator, words: usize, counter: u64) -> Case {
+/// A compression with so many chaining words, and a block that fills the square.
+pub fn compression(generator: &mut Generator, routine: Routine, words: usize) -> Case {
     Case {
-        routine: Routine::Compress { counter },
+        routine,
         salt: salt(generator),
         key: vec![],
         input: generator.vector(256 - 16 * words),

@@ -25,6 +25,11 @@ pub fn refusals(case: &Case) -> Vec<(u8, u64)> {
             let room = (lent as u64) < bits / 8;
             holding([(1, !admitted(bits)), bad_salt, (5, room)])
         }
+        Routine::DigestIn { mode, bits } => {
+            let room = (lent as u64) < bits / 8;
+            let mode = mode > 1;
+            holding([(1, !admitted(bits)), bad_salt, (5, room), (6, mode)])
+        }
         // A tag that is shorter than the right one is no room: it gets a no.
         Routine::HmacCheck { bits } => holding([(1, !admitted(bits)), bad_salt]),
         Routine::Rounds { count, counter } | Routine::RoundsBack { count, counter } => {
@@ -33,6 +38,15 @@ pub fn refusals(case: &Case) -> Vec<(u8, u64)> {
         }
         Routine::Compress { counter } => {
             let shape = (lent, input) == (64, 192) || (lent, input) == (128, 128);
+            holding([bad_salt, (6, !shape), (7, counter > HIGHEST_COUNTER)])
+        }
+        Routine::CompressIn { mode, counter } => {
+            let sizes: &[(usize, usize)] = match mode {
+                0 => &[(64, 192), (128, 128)],
+                1 => &[(32, 224), (64, 192)],
+                _ => &[],
+            };
+            let shape = sizes.contains(&(lent, input));
             holding([bad_salt, (6, !shape), (7, counter > HIGHEST_COUNTER)])
         }
         Routine::Fingerprint => {

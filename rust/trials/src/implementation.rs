@@ -1,4 +1,4 @@
-//! An implementation under trial: its seven routines, as functions on slices.
+//! An implementation under trial: its nine routines, as functions on slices.
 
 use crate::case::Routine;
 use plain::checked;
@@ -9,6 +9,7 @@ use plain::checked;
 pub struct Implementation {
     /// By digest length, salt, message and output room.
     pub digest: fn(u64, &[u8], &[u8], &mut [u8]) -> u8,
+    pub digest_in: DigestIn,
     pub hmac: Hmac,
     pub hmac_check: HmacCheck,
     /// By square, round count, starting counter and salt.
@@ -17,9 +18,16 @@ pub struct Implementation {
     pub rounds_back: fn(&mut [u8], u64, u64, &[u8]) -> u8,
     /// By chaining value, block, counter and salt.
     pub compress: fn(&mut [u8], &[u8], u64, &[u8]) -> u8,
+    pub compress_in: CompressIn,
     /// By salt, table and output room.
     pub fingerprint: fn(&[u8], &[u8], &mut [u8]) -> Placed,
 }
+
+/// By the number of the mode, and what a digest without one goes by.
+pub type DigestIn = fn(u8, u64, &[u8], &[u8], &mut [u8]) -> u8;
+
+/// By the number of the mode, and what a compression without one goes by.
+pub type CompressIn = fn(u8, &mut [u8], &[u8], u64, &[u8]) -> u8;
 
 /// By digest length, salt, key, message and output room.
 pub type Hmac = fn(u64, &[u8], &[u8], &[u8], &mut [u8]) -> u8;
@@ -48,9 +56,14 @@ pub struct Answer {
     pub yes: u8,
 }
 
-/// The proved library.
+/// The proved library. Its two routines in a mode take the numbers of a mode alone,
+/// since Rust's functions take an enum; the C functions are tried with all numbers.
 pub const LIBRARY: Implementation = Implementation {
     digest: |bits, salt, message, out| number(bahmorist::digest(bits, salt, message, out)),
+    digest_in: |mode, bits, salt, message, out| {
+        let mode = in_rust(mode);
+        number(bahmorist::digest_in(mode, bits, salt, message, out))
+    },
     hmac: |bits, salt, key, message, out| number(bahmorist::hmac(bits, salt, key, message, out)),
     hmac_check: |bits, salt, key, message, tag| {
         let answer = bahmorist::hmac_check(bits, salt, key, message, tag);
@@ -63,6 +76,10 @@ pub const LIBRARY: Implementation = Implementation {
     compress: |chaining, block, counter, salt| {
         number(bahmorist::compress(chaining, block, counter, salt))
     },
+    compress_in: |mode, chaining, block, counter, salt| {
+        let mode = in_rust(mode);
+        number(bahmorist::compress_in(mode, chaining, block, counter, salt))
+    },
     fingerprint: |salt, table, out| match bahmorist::fingerprint(salt, table, out) {
         Ok(()) => (0, 0),
         Err(refused) => (refused.refusal.number(), refused.place),
@@ -72,6 +89,7 @@ pub const LIBRARY: Implementation = Implementation {
 /// The second implementation.
 pub const PLAIN: Implementation = Implementation {
     digest: checked::digest,
+    digest_in: checked::digest_in,
     hmac: checked::hmac,
     hmac_check: |bits, salt, key, message, tag| {
         let (number, yes) = checked::hmac_check(bits, salt, key, message, tag);
@@ -80,11 +98,20 @@ pub const PLAIN: Implementation = Implementation {
     rounds: checked::rounds,
     rounds_back: checked::rounds_back,
     compress: checked::compress,
+    compress_in: checked::compress_in,
     fingerprint: checked::fingerprint,
 };
 
 fn number(answer: Result<(), bahmorist::Refusal>) -> u8 {
     answer.map_or_else(bahmorist::Refusal::number, |()| 0)
+}
+
+fn in_rust(mode: u8) -> bahmorist::Mode {
+    match mode {
+        0 => bahmorist::Mode::DoublePipe,
+        1 => bahmorist::Mode::SinglePipe,
+        _ => panic!("no mode has the number {mode}"),
+    }
 }
 
 impl Implementation {
@@ -98,6 +125,9 @@ impl Implementation {
         };
         match routine {
             Routine::Digest { bits } => alone((self.digest)(bits, salt, input, lent)),
+            Routine::DigestIn { mode, bits } => {
+                alone((self.digest_in)(mode, bits, salt, input, lent))
+            }
             Routine::Hmac { bits } => alone((self.hmac)(bits, salt, key, input, lent)),
             Routine::HmacCheck { bits } => {
                 let (number, yes) = (self.hmac_check)(bits, salt, key, input, lent);
@@ -111,6 +141,9 @@ impl Implementation {
                 alone((self.rounds_back)(lent, count, counter, salt))
             }
             Routine::Compress { counter } => alone((self.compress)(lent, input, counter, salt)),
+            Routine::CompressIn { mode, counter } => {
+                alone((self.compress_in)(mode, lent, input, counter, salt))
+            }
             Routine::Fingerprint => {
                 let (number, place) = (self.fingerprint)(salt, input, lent);
                 Answer {

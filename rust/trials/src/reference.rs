@@ -4,6 +4,7 @@
 use crate::case::{Case, Outcome, Routine};
 use crate::expected;
 use crate::implementation::PLAIN;
+use third::Mode::{DoublePipe, SinglePipe};
 
 /// The right outcome, or how the references differ among themselves.
 pub fn outcome(case: &Case) -> Result<Outcome, String> {
@@ -46,8 +47,12 @@ fn third(case: &Case) -> Option<Outcome> {
         lent: case.lent.clone(),
     };
     match case.routine {
-        Routine::Digest { bits } => {
-            let digest = third::digest(third::Mode::DoublePipe, bits, salt, &case.input)?;
+        Routine::Digest { bits } | Routine::DigestIn { mode: 0, bits } => {
+            let digest = third::digest(DoublePipe, bits, salt, &case.input)?;
+            third.lent[..digest.len()].copy_from_slice(&digest);
+        }
+        Routine::DigestIn { bits, .. } => {
+            let digest = third::digest(SinglePipe, bits, salt, &case.input)?;
             third.lent[..digest.len()].copy_from_slice(&digest);
         }
         Routine::Hmac { bits } => {
@@ -64,9 +69,10 @@ fn third(case: &Case) -> Option<Outcome> {
                 return None;
             }
         }
-        Routine::RoundsBack { .. } | Routine::Compress { .. } | Routine::Fingerprint => {
-            return None;
-        }
+        Routine::RoundsBack { .. }
+        | Routine::Compress { .. }
+        | Routine::CompressIn { .. }
+        | Routine::Fingerprint => return None,
     }
     Some(third)
 }
@@ -92,6 +98,35 @@ mod tests {
         assert_eq!((outcome.number, outcome.place), (0, 0));
         if let Some(third) = third(&case) {
             assert_eq!(third, outcome);
+        }
+    }
+
+    /// In both modes, by `third` too where there is one.
+    #[test]
+    fn the_outcome_of_a_digest_in_a_mode() {
+        let modes = [plain::mode::Mode::DoublePipe, plain::mode::Mode::SinglePipe];
+        for mode in modes {
+            for bits in [256, 512] {
+                let routine = Routine::DigestIn {
+                    mode: mode.number(),
+                    bits,
+                };
+                let case = Case {
+                    routine,
+                    salt: vec![7; 16],
+                    key: vec![],
+                    input: vec![3; 210],
+                    lent: vec![0xee; 66],
+                };
+                let outcome = outcome(&case).unwrap();
+                let size = bits as usize / 8;
+                let digest = plain::digest::digest(mode, bits, &[7; 16], &[3; 210]);
+                assert_eq!(outcome.lent[..size], digest);
+                assert_eq!(outcome.lent[size..], [0xee; 66][size..]);
+                if let Some(third) = third(&case) {
+                    assert_eq!(third, outcome);
+                }
+            }
         }
     }
 

@@ -32,6 +32,19 @@ fn a_case_shows_its_inputs() {
 }
 
 #[test]
+fn a_case_in_a_mode_shows_its_number() {
+    let mut case = case();
+    case.routine = Routine::DigestIn { mode: 1, bits: 128 };
+    let shown = case.to_string();
+    assert!(shown.starts_with("digest, mode 1, 128 bits, "), "{shown}");
+    assert!(shown.ends_with(", room of 20 bytes"), "{shown}");
+    let (mode, counter) = (255, 7);
+    case.routine = Routine::CompressIn { mode, counter };
+    let shown = case.to_string();
+    assert!(shown.starts_with("compression, mode 255, counter 7, "));
+}
+
+#[test]
 fn a_tag_and_a_check_show_their_key() {
     let mut case = case();
     case.key = vec![0xc3; 2];

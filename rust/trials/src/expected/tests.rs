@@ -90,6 +90,48 @@ fn compressions() {
     }
 }
 
+/// The number of the mode comes last among a digest's.
+#[test]
+fn digests_in_a_mode() {
+    for (mode, bits, salt, room, number) in [
+        (0, 128, 16, 16, 0),
+        (1, 128, 16, 16, 0),
+        (2, 128, 16, 16, 6),
+        (255, 512, 16, 64, 6),
+        (255, 512, 16, 63, 5),
+        (2, 512, 15, 63, 2),
+        (2, 520, 15, 63, 1),
+        (1, 512, 16, 63, 5),
+        (1, 120, 16, 64, 1),
+        (1, 256, 17, 32, 2),
+    ] {
+        let case = case(Routine::DigestIn { mode, bits }, salt, b"abc", room);
+        assert_eq!(answer(&case), (number, 0), "{case}");
+    }
+}
+
+#[test]
+fn compressions_in_a_mode() {
+    for (mode, chaining, block, counter, salt, number) in [
+        (0, 64, 192, u64::MAX - 160, 16, 0),
+        (0, 128, 128, 0, 16, 0),
+        (0, 32, 224, 0, 16, 6),
+        (1, 64, 192, u64::MAX - 160, 16, 0),
+        (1, 32, 224, 0, 16, 0),
+        (1, 128, 128, 0, 16, 6),
+        (1, 32, 192, u64::MAX, 16, 6),
+        (1, 32, 224, u64::MAX, 16, 7),
+        (1, 31, 224, u64::MAX, 15, 2),
+        (2, 64, 192, 0, 16, 6),
+        (255, 32, 224, u64::MAX, 16, 6),
+        (255, 32, 224, u64::MAX, 15, 2),
+    ] {
+        let routine = Routine::CompressIn { mode, counter };
+        let case = case(routine, salt, &vec![0; block], chaining);
+        assert_eq!(answer(&case), (number, 0), "{case}");
+    }
+}
+
 #[test]
 fn fingerprints() {
     let long = [2; 4097];

@@ -58,7 +58,7 @@ fn record(kind: u8, count: u64, counter: u64, case: &Case) -> Vec<u8> {
     record.extend(&case.salt);
     record.extend([0; 2]);
     record.extend(&case.lent);
-    record.resize(513, 0);
+    record.resize(545, 0);
     record
 }
 

@@ -42,7 +42,7 @@ const fn midway(command: &'static str, before: &'static [u8], said: &'static str
 const RECORD: &[u8] = &[2, 0, 0x3c];
 const SALTED: &[u8] = b"0123456789abcdef\x02\x00\x3c";
 
-const CASES: [Broken; 18] = [
+const CASES: [Broken; 21] = [
     case(
         "list_table <.",
         "list_table: standard input: Is a directory\n",
@@ -89,6 +89,11 @@ const CASES: [Broken; 18] = [
         "echosum table salted >&-",
         "echosum: standard output: Bad file descriptor\n",
     ),
+    case("echosum -1 <.", "echosum: -: Is a directory\n"),
+    case(
+        "echosum -1 table salted >/dev/full",
+        "echosum: standard output: No space left on device\n",
+    ),
     case(
         "echosum --help >/dev/full",
         "echosum: standard output: No space left on device\n",
@@ -105,6 +110,7 @@ const CASES: [Broken; 18] = [
         "fingerprint_table: standard input: error 104\n",
     ),
     midway("echosum", RECORD, "echosum: -: error 104\n"),
+    midway("echosum -1", RECORD, "echosum: -: error 104\n"),
 ];
 
 /// The same without `tools/run`, where the processor runs the programs itself:

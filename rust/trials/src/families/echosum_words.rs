@@ -4,7 +4,7 @@
 use crate::family::{Family, Run};
 use crate::folder::Folder;
 use crate::program::{at_once, check_all, Job};
-use plain::mode::Mode::DoublePipe;
+use plain::mode::Mode::{self, DoublePipe, SinglePipe};
 use plain::{digest, hex};
 use std::path::Path;
 
@@ -15,10 +15,10 @@ pub const FAMILY: Family = Family {
 
 pub const NAME: &str = "echosum";
 
-const USAGE: &str = "usage: echosum [-b BITS] [-s SALT] [FILE...]";
+const USAGE: &str = "usage: echosum [-1] [-b BITS] [-s SALT] [FILE...]";
 
 /// What `--help` prints behind the usage.
-const HELP: &str = "Prints the ECHO digest of each FILE, or of standard input. BITS is 128 to 512 by eights, and 256 where not given; SALT is 32 hex digits, and zeros where not given.";
+const HELP: &str = "Prints the ECHO digest of each FILE, or of standard input, double-pipe or, with -1, single-pipe. BITS is 128 to 512 by eights, and 256 where not given; SALT is 32 hex digits, and zeros where not given.";
 
 const ZEROS: [u8; 16] = [0; 16];
 const SALT: [u8; 16] = *b"\x00\x0a\xa0\xff456789abcdef";
@@ -28,14 +28,15 @@ const SALT_WORD: &str = "000aA0fF343536373839616263646566";
 const INPUT: &[u8] = b"standard input";
 
 /// Names and lengths of the files that are there. One is larger than what the
-/// program reads at a time, one has the name of a flag, and some have bytes that
+/// program reads at a time, two have the names of flags, and some have bytes that
 /// a line can't hold as they are.
-const FILES: [(&str, usize); 8] = [
+const FILES: [(&str, usize); 9] = [
     ("empty", 0),
     ("short", 3),
     ("block", 192),
     ("large", 200_000),
     ("-b", 1),
+    ("-1", 2),
     ("line\nend", 5),
     ("carriage\rreturn", 6),
     ("back\\slash\n", 7),
@@ -54,9 +55,9 @@ fn run(run: &mut Run) -> Result<(), String> {
 }
 
 /// The line of a digest.
-pub fn line(bits: u64, salt: &[u8], message: &[u8], name: &str) -> String {
+pub fn line(mode: Mode, bits: u64, salt: &[u8], message: &[u8], name: &str) -> String {
     let salt = salt.try_into().expect("sixteen bytes");
-    let digest = digest::digest(DoublePipe, bits, &salt, message);
+    let digest = digest::digest(mode, bits, &salt, message);
     named(&format!("{}  ", hex::encode(&digest)), name, "")
 }
 
@@ -82,12 +83,16 @@ fn jobs(folder: &Path) -> Vec<Job> {
         output,
         said: said.into(),
     };
-    let good = |words: &[&str], bits, salt: [u8; 16], names: &[&str]| {
+    let good_in = |mode, words: &[&str], bits, salt: [u8; 16], names: &[&str]| {
         let lines = names
             .iter()
-            .map(|name| line(bits, &salt, &content(name), name));
+            .map(|name| line(mode, bits, &salt, &content(name), name));
         job(words, lines.collect(), "")
     };
+    let good =
+        |words: &[&str], bits, salt, names: &[&str]| good_in(DoublePipe, words, bits, salt, names);
+    let single =
+        |words: &[&str], bits, salt, names: &[&str]| good_in(SinglePipe, words, bits, salt, names);
     let bad_word = |words: &[&str], bad: &str| {
         let said = named("echosum: bad word ", bad, &format!(" ({USAGE})"));
         job(words, String::new(), &said)
@@ -128,9 +133,44 @@ fn jobs(folder: &Path) -> Vec<Job> {
         good(&["-b", "512", "-b", "384", "short"], 384, ZEROS, &["short"]),
         good(&["--", "-b", "short"], 256, ZEROS, &["-b", "short"]),
         good(&["-b", "512", "--", "-b"], 512, ZEROS, &["-b"]),
+        single(&["-1"], 256, ZEROS, &["-"]),
+        single(&["-1", "-"], 256, ZEROS, &["-"]),
+        single(
+            &["-1", "empty", "short", "block", "large"],
+            256,
+            ZEROS,
+            &["empty", "short", "block", "large"],
+        ),
+        single(
+            &["-1", "-b", "512", "-s", SALT_WORD, "large", "-"],
+            512,
+            SALT,
+            &["large", "-"],
+        ),
+        // Before, between and behind the other words, and twice.
+        single(&["-b", "264", "-1", "block"], 264, ZEROS, &["block"]),
+        single(
+            &["-s", SALT_WORD, "short", "-1", "block"],
+            256,
+            SALT,
+            &["short", "block"],
+        ),
+        single(&["short", "-b", "128", "-1"], 128, ZEROS, &["short"]),
+        single(&["-1", "-1", "short"], 256, ZEROS, &["short"]),
+        single(&["-1", "short", "-1"], 256, ZEROS, &["short"]),
+        single(&["-1", "--", "-b"], 256, ZEROS, &["-b"]),
+        // Behind `--` it is a file.
+        good(&["--", "-1", "short"], 256, ZEROS, &["-1", "short"]),
+        single(&["-1", "--", "-1"], 256, ZEROS, &["-1"]),
+        job(
+            &["-1", "missing", "short"],
+            line(SinglePipe, 256, &ZEROS, &content("short"), "short"),
+            missing,
+        ),
         job(
             &["empty", "missing", "short"],
-            line(256, &ZEROS, b"", "empty") + &line(256, &ZEROS, &content("short"), "short"),
+            line(DoublePipe, 256, &ZEROS, b"", "empty")
+                + &line(DoublePipe, 256, &ZEROS, &content("short"), "short"),
             missing,
         ),
         good(
@@ -168,6 +208,14 @@ fn jobs(folder: &Path) -> Vec<Job> {
         no_value(&["-b"], "-b"),
         no_value(&["-s"], "-s"),
         no_value(&["short", "-b"], "-b"),
+        no_value(&["-1", "-s"], "-s"),
+        // What stands behind a flag that takes a value is its value.
+        bad_word(&["-b", "-1", "short"], "-1"),
+        bad_word(&["-s", "-1", "short"], "-1"),
+        bad_word(&["-1256", "short"], "-1256"),
+        bad_word(&["-1b", "256", "short"], "-1b"),
+        bad_word(&["-1", "-2", "short"], "-2"),
+        bad_word(&["--1", "short"], "--1"),
         bad_word(&["-b", "abc", "short"], "abc"),
         bad_word(&["-b", "", "short"], ""),
         bad_word(&["-b", "-256", "short"], "-256"),
@@ -180,6 +228,7 @@ fn jobs(folder: &Path) -> Vec<Job> {
         bad_word(&["-\n"], "-\n"),
         help(&["--help"]),
         help(&["short", "--help", "-x"]),
+        help(&["-1", "--help"]),
     ]
 }
 
@@ -199,7 +248,7 @@ mod tests {
     fn the_line_of_a_published_digest() {
         let published = "4496cd09d425999aefa75189ee7fd3c97362aa9e4ca898328002d20a4b519788";
         assert_eq!(
-            line(256, &ZEROS, b"", "empty"),
+            line(DoublePipe, 256, &ZEROS, b"", "empty"),
             format!("{published}  empty\n")
         );
     }

@@ -26,6 +26,16 @@ extern "C" {
         out: *mut u8,
         out_len: usize,
     ) -> u8;
+    fn bahmorist_digest_in(
+        mode: u8,
+        bits: u64,
+        salt: *const u8,
+        salt_len: usize,
+        message: *const u8,
+        message_len: usize,
+        out: *mut u8,
+        out_len: usize,
+    ) -> u8;
     fn bahmorist_hmac(
         bits: u64,
         salt: *const u8,
@@ -74,6 +84,16 @@ extern "C" {
         salt: *const u8,
         salt_len: usize,
     ) -> u8;
+    fn bahmorist_compress_in(
+        mode: u8,
+        chaining: *mut u8,
+        chaining_len: usize,
+        block: *const u8,
+        block_len: usize,
+        counter: u64,
+        salt: *const u8,
+        salt_len: usize,
+    ) -> u8;
     fn bahmorist_fingerprint(
         salt: *const u8,
         salt_len: usize,
@@ -85,7 +105,7 @@ extern "C" {
     ) -> u8;
 }
 
-// SAFETY, for all seven: the pointer of a slice and its length, or NULL and 0; what
+// SAFETY, for all nine: the pointer of a slice and its length, or NULL and 0; what
 // is written comes from a `&mut`.
 pub const WITH_NULL: Implementation = Implementation {
     digest: |bits, salt, message, out| {
@@ -93,6 +113,23 @@ pub const WITH_NULL: Implementation = Implementation {
         let (message, message_len) = read(message);
         let (out, out_len) = written(out);
         unsafe { bahmorist_digest(bits, salt, salt_len, message, message_len, out, out_len) }
+    },
+    digest_in: |mode, bits, salt, message, out| {
+        let (salt, salt_len) = read(salt);
+        let (message, message_len) = read(message);
+        let (out, out_len) = written(out);
+        unsafe {
+            bahmorist_digest_in(
+                mode,
+                bits,
+                salt,
+                salt_len,
+                message,
+                message_len,
+                out,
+                out_len,
+            )
+        }
     },
     hmac: |bits, salt, key, message, out| {
         let (salt, salt_len) = read(salt);
@@ -162,6 +199,23 @@ pub const WITH_NULL: Implementation = Implementation {
             )
         }
     },
+    compress_in: |mode, chaining, block, counter, salt| {
+        let (chaining, chaining_len) = written(chaining);
+        let (block, block_len) = read(block);
+        let (salt, salt_len) = read(salt);
+        unsafe {
+            bahmorist_compress_in(
+                mode,
+                chaining,
+                chaining_len,
+                block,
+                block_len,
+                counter,
+                salt,
+                salt_len,
+            )
+        }
+    },
     fingerprint: |salt, table, out| {
         let (salt, salt_len) = read(salt);
         let (table, table_len) = read(table);
@@ -193,7 +247,7 @@ fn written(bytes: &mut [u8]) -> (*mut u8, usize) {
 
 fn run(run: &mut Run) -> Result<(), String> {
     run.subject = WITH_NULL;
-    for (routine, input, lent) in routines() {
+    for (routine, input, lent) in routines().into_iter().chain(in_modes()) {
         for empty in 0..8 {
             let case = with_empty(run, empty, routine, 0, input, lent);
             run.check(&case)?;
@@ -251,6 +305,24 @@ fn routines() -> [(Routine, usize, usize); 12] {
         (Routine::Compress { counter: u64::MAX }, 128, 128),
         (Routine::Fingerprint, 6, 32),
         (Routine::Fingerprint, 7, 40),
+    ]
+}
+
+/// The same of routines in a mode.
+fn in_modes() -> [(Routine, usize, usize); 10] {
+    let digest = |mode, bits| Routine::DigestIn { mode, bits };
+    let compress = |mode, counter| Routine::CompressIn { mode, counter };
+    [
+        (digest(0, 256), 192, 32),
+        (digest(1, 128), 5, 16),
+        (digest(1, 256), 224, 32),
+        (digest(1, 512), 200, 64),
+        (digest(2, 256), 5, 32),
+        (compress(0, 1536), 192, 64),
+        (compress(1, 1792), 224, 32),
+        (compress(1, 1536), 192, 64),
+        (compress(1, u64::MAX), 192, 64),
+        (compress(255, 1536), 192, 64),
     ]
 }
 

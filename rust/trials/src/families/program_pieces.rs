@@ -8,6 +8,7 @@ use crate::family::{Family, Run};
 use crate::program::{check_each, Job, Piece, FINGERPRINT, LIST};
 use crate::table;
 use plain::hex;
+use plain::mode::{Mode, MODES};
 use seeded::Generator;
 
 pub const FAMILY: Family = Family {
@@ -41,19 +42,25 @@ fn run(run: &mut Run) -> Result<(), String> {
     Ok(())
 }
 
-/// A digest of what comes on standard input.
+/// A digest of what comes on standard input, in either mode.
 fn summed(generator: &mut Generator) -> Job {
+    let mode = generator.pick(&MODES);
     let bits = 128 + 8 * generator.below(49);
     let salt = draw::salt(generator);
     let length = 1 + generator.below(MOST) as usize;
     let message = generator.vector(length);
     let words = ["-b", &bits.to_string(), "-s", &hex::encode(&salt)];
+    let mut words = words.map(String::from).to_vec();
+    if mode == Mode::SinglePipe {
+        // Before each of the flags, or behind them.
+        words.insert(generator.pick(&[0, 2, 4]), "-1".into());
+    }
     Job {
         name: NAME,
-        words: words.map(String::from).to_vec(),
+        words,
         folder: None,
         pieces: pieces(generator, &message),
-        output: line(bits, &salt, &message, "-"),
+        output: line(mode, bits, &salt, &message, "-"),
         said: String::new(),
     }
 }

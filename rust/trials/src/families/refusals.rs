@@ -17,28 +17,43 @@ pub const FAMILY: Family = Family {
 };
 
 fn run(run: &mut Run) -> Result<(), String> {
-    let mut cases = digests(&mut run.generator);
+    let mut cases = digests(&mut run.generator, |bits| Routine::Digest { bits });
     cases.extend(tags(&mut run.generator));
     cases.extend(on_squares(&mut run.generator));
-    cases.extend(compressions(&mut run.generator));
+    let without_mode = |counter| Routine::Compress { counter };
+    cases.extend(compressions(&mut run.generator, without_mode));
+    cases.extend(in_modes(&mut run.generator, &inputs::MODES[..2]));
     cases.extend(fingerprints(&mut run.generator));
     cases.iter().try_for_each(|case| run.check(case))?;
     let checks = checks(&mut run.generator);
     checks.iter().try_for_each(|case| run.check(case))?;
-    // The C function itself, whose refusals say no in so many words.
+    // The C functions themselves: the refusals of a check say no in so many words,
+    // and a mode may have any number.
     run.subject = WITH_NULL;
-    checks.iter().try_for_each(|case| run.check(case))
+    checks.iter().try_for_each(|case| run.check(case))?;
+    let cases = in_modes(&mut run.generator, &inputs::MODES);
+    cases.iter().try_for_each(|case| run.check(case))
 }
 
-/// Numbers 1, 2 and 5.
-fn digests(generator: &mut Generator) -> Vec<Case> {
+/// Digests and compressions in each of these modes.
+fn in_modes(generator: &mut Generator, modes: &[u8]) -> Vec<Case> {
+    let mut cases = Vec::new();
+    for &mode in modes {
+        cases.extend(digests(generator, |bits| Routine::DigestIn { mode, bits }));
+        let routine = |counter| Routine::CompressIn { mode, counter };
+        cases.extend(compressions(generator, routine));
+    }
+    cases
+}
+
+/// Numbers 1, 2 and 5, each with 6 and without where there is a mode.
+fn digests(generator: &mut Generator, routine: impl Fn(u64) -> Routine) -> Vec<Case> {
     let mut cases = Vec::new();
     for bits in inputs::BITS {
         for salt in inputs::SALTS {
             for room in inputs::rooms(bits) {
                 for message in [0, 3, 200] {
-                    let routine = Routine::Digest { bits };
-                    cases.push(filled(generator, routine, salt, message, room));
+                    cases.push(filled(generator, routine(bits), salt, message, room));
                 }
             }
         }
@@ -108,12 +123,12 @@ fn on_squares(generator: &mut Generator) -> Vec<Case> {
 }
 
 /// Numbers 2, 6 and 7.
-fn compressions(generator: &mut Generator) -> Vec<Case> {
+fn compressions(generator: &mut Generator, routine: impl Fn(u64) -> Routine) -> Vec<Case> {
     let mut cases = Vec::new();
     for salt in inputs::SALTS {
         for (chaining, block) in inputs::SIZES {
             for counter in inputs::COUNTERS {
-                let routine = Routine::Compress { counter };
+                let routine = routine(counter);
                 cases.push(filled(generator, routine, salt, block, chaining));
             }
         }

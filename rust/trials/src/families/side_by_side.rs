@@ -1,10 +1,12 @@
 //! Many runs of `echosum` at once, whose lines all go to one file: each line has to
-//! come out whole, with the digest of the name that stands in it.
+//! come out whole, with the digest of the name that stands in it. Every other run is
+//! single-pipe.
 
 use super::echosum_words::{line, named, NAME};
 use crate::family::{Family, Run};
 use crate::folder::Folder;
 use crate::program::RUN;
+use plain::mode::{Mode, MODES};
 use std::fs::{self, File};
 use std::process::{Child, Command, Stdio};
 
@@ -50,8 +52,13 @@ fn round(folder: &Folder) -> std::io::Result<String> {
 /// A run over all files, from one of its own on, and over one that is missing.
 fn start(folder: &Folder, number: usize, to: &File) -> std::io::Result<Child> {
     let first = number * FILES / RUNS;
+    let flag = match mode(number) {
+        Mode::DoublePipe => None,
+        Mode::SinglePipe => Some("-1"),
+    };
     Command::new(RUN)
         .arg(NAME)
+        .args(flag)
         .arg(missing(number))
         .args((first..first + FILES).map(|file| name(file % FILES)))
         .current_dir(&folder.0)
@@ -59,6 +66,11 @@ fn start(folder: &Folder, number: usize, to: &File) -> std::io::Result<Child> {
         .stdout(to.try_clone()?)
         .stderr(to.try_clone()?)
         .spawn()
+}
+
+/// The mode of a run.
+fn mode(number: usize) -> Mode {
+    MODES[number % MODES.len()]
 }
 
 fn name(number: usize) -> String {
@@ -79,12 +91,15 @@ fn content(number: usize) -> Vec<u8> {
 
 /// All lines of a round, in order.
 fn expected() -> Vec<String> {
-    let digests = (0..FILES).map(|number| line(256, &[0; 16], &content(number), &name(number)));
+    let each = MODES.map(|mode| {
+        let lines =
+            (0..FILES).map(|number| line(mode, 256, &[0; 16], &content(number), &name(number)));
+        lines.collect::<Vec<String>>()
+    });
     let complaints =
         (0..RUNS).map(|number| named("echosum: ", &missing(number), ": No such file or directory"));
-    let each: Vec<String> = digests.collect();
     let mut lines: Vec<String> = (0..RUNS)
-        .flat_map(|_| each.clone())
+        .flat_map(|number| each[usize::from(mode(number).number())].clone())
         .chain(complaints)
         .collect();
     lines.sort();

@@ -21,8 +21,48 @@ fn a_digest_that_is_wrong_at_an_edge_is_seen() {
         ..LIBRARY
     };
     let said = tried(&every_length::FAMILY, wrong).unwrap_err();
-    assert!(said.starts_with("case 349: digest, 256 bits, "), "{said}");
+    // Each of the 174 lengths before has six cases.
+    assert!(said.starts_with("case 1045: digest, 256 bits, "), "{said}");
     assert!(said.contains("message of 174 bytes "), "{said}");
+}
+
+/// One byte more in the first block than fits it with its padding.
+#[test]
+fn a_digest_in_single_pipe_that_is_wrong_at_an_edge_is_seen() {
+    let wrong = Implementation {
+        digest_in: |mode, bits, salt, message, out| {
+            let number = (LIBRARY.digest_in)(mode, bits, salt, message, out);
+            let wrong = (mode, bits, message.len()) == (1, 256, 206);
+            out[0] ^= u8::from(wrong);
+            number
+        },
+        ..LIBRARY
+    };
+    let said = tried(&every_length::FAMILY, wrong).unwrap_err();
+    let case = "case 1239: digest, mode 1, 256 bits, ";
+    assert!(said.starts_with(case), "{said}");
+    assert!(said.contains("message of 206 bytes "), "{said}");
+}
+
+#[test]
+fn a_mode_that_is_left_out_is_seen() {
+    let wrong = Implementation {
+        digest_in: |_, bits, salt, message, out| (LIBRARY.digest)(bits, salt, message, out),
+        ..LIBRARY
+    };
+    for family in [&every_length::FAMILY, &random_messages::FAMILY] {
+        let said = tried(family, wrong).unwrap_err();
+        assert!(said.contains("digest, mode 1, "), "{said}");
+    }
+    let wrong = Implementation {
+        compress_in: |mode, chaining, block, counter, salt| match chaining.len() {
+            64 => (LIBRARY.compress)(chaining, block, counter, salt),
+            _ => (LIBRARY.compress_in)(mode, chaining, block, counter, salt),
+        },
+        ..LIBRARY
+    };
+    let said = tried(&compressions::FAMILY, wrong).unwrap_err();
+    assert!(said.contains("compression, mode 1, "), "{said}");
 }
 
 #[test]
@@ -89,7 +129,7 @@ fn a_table_that_is_one_byte_too_long_to_be_refused_is_seen() {
 #[test]
 fn the_library_passes_and_is_counted() {
     assert_eq!(tried(&tables::FAMILY, LIBRARY), Ok(200));
-    assert_eq!(tried(&compressions::FAMILY, LIBRARY), Ok(200 + 2 * 18));
+    assert_eq!(tried(&compressions::FAMILY, LIBRARY), Ok(200 + 6 * 18));
 }
 
 #[test]

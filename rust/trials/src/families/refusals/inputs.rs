@@ -51,14 +51,30 @@ pub const COUNTS: [u64; 10] = [0, 1, 7, 8, 9, 10, 11, 256 + 8, (1 << 32) + 10, u
 /// Starting counters: the first two are admitted.
 pub const COUNTERS: [u64; 4] = [0, HIGHEST_COUNTER, HIGHEST_COUNTER + 1, u64::MAX];
 
-/// Sizes of a chaining value and a block: the first two are of a family.
-pub const SIZES: [(usize, usize); 20] = [
+/// Numbers of a mode: the first two have one.
+pub const MODES: [u8; 4] = [0, 1, 2, 255];
+
+/// Sizes of a chaining value and a block: the first three are of a family, the
+/// first in both modes, the second in double-pipe and the third in single-pipe.
+pub const SIZES: [(usize, usize); 34] = [
     (64, 192),
     (128, 128),
+    (32, 224),
     (192, 64),
     (128, 192),
     (192, 128),
     (64, 128),
+    (32, 192),
+    (32, 128),
+    (64, 224),
+    (128, 224),
+    (224, 32),
+    (31, 224),
+    (33, 224),
+    (32, 223),
+    (32, 225),
+    (31, 225),
+    (33, 223),
     (63, 192),
     (65, 192),
     (64, 191),
@@ -70,6 +86,8 @@ pub const SIZES: [(usize, usize); 20] = [
     (129, 127),
     (0, 0),
     (0, 192),
+    (0, 224),
+    (32, 0),
     (64, 0),
     (0, 256),
     (256, 0),

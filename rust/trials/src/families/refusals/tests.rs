@@ -25,15 +25,36 @@ fn every_set(numbers: &[u8]) -> HashSet<Vec<u8>> {
 #[test]
 fn every_set_of_refusals_is_met() {
     let generator = &mut Generator::new(1);
-    assert_eq!(sets(digests(generator)), every_set(&[1, 2, 5]));
+    let digests_without_mode = digests(generator, |bits| Routine::Digest { bits });
+    assert_eq!(sets(digests_without_mode), every_set(&[1, 2, 5]));
     assert_eq!(sets(tags(generator)), every_set(&[1, 2, 5]));
     assert_eq!(sets(checks(generator)), every_set(&[1, 2]));
     assert_eq!(sets(on_squares(generator)), every_set(&[2, 6, 7]));
-    assert_eq!(sets(compressions(generator)), every_set(&[2, 6, 7]));
+    let without_mode = |counter| Routine::Compress { counter };
+    let sets_met = sets(compressions(generator, without_mode));
+    assert_eq!(sets_met, every_set(&[2, 6, 7]));
     // Of 9 and 10 only the one nearer the front applies.
     let mut tables = every_set(&[2, 5, 8, 9, 10]);
     tables.retain(|set| !(set.contains(&9) && set.contains(&10)));
     assert_eq!(sets(fingerprints(generator)), tables);
+}
+
+/// With numbers that have a mode 6 never comes from a digest, and with others
+/// always, alone or behind any others.
+#[test]
+fn every_set_of_refusals_is_met_in_each_mode() {
+    let generator = &mut Generator::new(1);
+    for mode in inputs::MODES {
+        let (digests, compressions): (Vec<Case>, Vec<Case>) = in_modes(generator, &[mode])
+            .into_iter()
+            .partition(|case| matches!(case.routine, Routine::DigestIn { .. }));
+        let mut expected = every_set(&[1, 2, 5, 6]);
+        expected.retain(|set| set.contains(&6) == (mode > 1));
+        assert_eq!(sets(digests), expected);
+        let mut expected = every_set(&[2, 6, 7]);
+        expected.retain(|set| set.contains(&6) || mode <= 1);
+        assert_eq!(sets(compressions), expected);
+    }
 }
 
 /// What the family says of an implementation with something else in its place.
@@ -63,6 +84,26 @@ fn a_bound_that_is_one_off_is_seen() {
         ..LIBRARY
     };
     assert!(said(wrong).contains("compression, counter 18446744073709551455"));
+}
+
+/// 64 and 128 in single-pipe: the mode is left out of the refusal.
+#[test]
+fn sizes_of_the_other_mode_that_are_taken_are_seen() {
+    let wrong = Implementation {
+        compress_in: |mode, chaining, block, counter, salt| match (LIBRARY.compress_in)(
+            mode, chaining, block, counter, salt,
+        ) {
+            6 => (LIBRARY.compress)(chaining, block, counter, salt),
+            number => number,
+        },
+        ..LIBRARY
+    };
+    let said = said(wrong);
+    assert!(said.contains("compression, mode 1, counter 0, "), "{said}");
+    assert!(
+        said.contains("done, where refused 6 at 0 is right"),
+        "{said}"
+    );
 }
 
 #[test]

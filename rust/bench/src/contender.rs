@@ -15,7 +15,7 @@ pub const TABLES: usize = 2;
 pub const INSTRUCTION: usize = 3;
 
 /// The salt of every run.
-const SALT: [u8; 16] = [7; 16];
+pub const SALT: [u8; 16] = [7; 16];
 
 pub const CONTENDERS: [Contender; 4] = [
     Contender {

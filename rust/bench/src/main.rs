@@ -1,11 +1,13 @@
 //! Times digests by the proved library, by `plain`, by `tables` and by the
 //! processor's AES instruction, on the same inputs in one run, and measures the
-//! stack that a digest of the library takes. Exits with 1 where the library is
-//! slower than it may be.
+//! stack that a digest of the library takes. Single-pipe is timed beside
+//! double-pipe, and not judged. Exits with 1 where the library is slower than it may
+//! be.
 
 mod contender;
 mod judgement;
 mod message;
+mod pipes;
 mod stack;
 mod timing;
 
@@ -32,6 +34,9 @@ fn main() -> ExitCode {
         let time = Times::of(&[&ROUNDS], bits, &[]).nanoseconds(0);
         let time = time.expect("it was timed") / block_bytes(bits) as f64;
         println!("rounds of the library alone, {bits} bits: {time:.2} ns for each byte of a block");
+    }
+    for bits in BITS {
+        println!("{}", pipes::line(bits));
     }
     for bits in BITS {
         match stack::of_digest(bits, &[0; 4096]) {

@@ -1,3 +1,4 @@
 -- What is proved of the contracts, apart from any function.
 pub mod Laws
 pub mod OneAnswer
+pub mod Theorems

@@ -1,18 +1,22 @@
--- Four wrong programs of must-fail/ change a definition and not the code, since the code could be made so only by a change of its shape. For each, a
+-- Six wrong programs of must-fail/ change a definition and not the code, since the code could be made so only by a change of its shape. For each, a
 -- point at which the definition and the changed one, which is written out, differ. Assumes nothing.
 use mathlib.Core.Path.{_≡_, sym, ap, _∙_}
+use mathlib.Core.Bool.{Bool, _&&_, true≢false}
 use mathlib.Core.List.{List, [], _∷_, _++_}
-use Prim.Native.Nat.{ℕ, _+_, _*_, _/_, _%_, _^_}
+use Prim.Native.Nat.{ℕ, _+_, _*_, _/_, _%_, _^_, max}
 use native.Mathlib.Omega.{arith}
-use lib.Dec.{lit<}
-use lib.ListN.{drop, getD, replicate}
+use lib.Dec.{leb, lit<}
+use lib.ListN.{drop, getD, length, replicate, take}
 use Rattle.aes_round.specs.Bytes.{tab, xor, xorBytes}
 use Rattle.aes_round.proofs.Laws.Bytes.{getD-tab, length-tab}
 use Rattle.aes_round.proofs.Laws.Xor.{getD-xor, xor-self, xor-twice, xor-zero-r}
-use Rattle.echo.specs.Compression.{bigFinal, fold}
+use Rattle.echo.specs.declared.mode.Mode.the-variants.{DoublePipe}
+use Rattle.echo.specs.declared.session.Session.{Session}
+use Rattle.echo.specs.Compression.{bigFinal, fold, xorSum}
+use Rattle.echo.specs.Families.{blockSize, chainingSize}
 use Rattle.echo.specs.Numbers.{littleEndian}
 use Rattle.echo.specs.Refusals.{unless}
-use Rattle.echo.specs.Session.{admitted, blank, isSession, readLeaves, readRefusal, sessionDigest}
+use Rattle.echo.specs.Session.{admitted, allZero, blank, isSession, limit, made, readLeaves, readRefusal, sessionDigest}
 use Rattle.echo.specs.Square.{counterKey, keysFrom}
 use Rattle.echo.proofs.Laws.Joined.{first-part}
 
@@ -53,3 +57,26 @@ unfolding readLeaves readRefusal isSession admitted
 written-at-a-refusal-differs e =
     let z : _≡_ {A = ℕ} 7 0 = ap (λ (l : List ℕ). getD l 0 0) e in
     omega arith
+
+-- a square's first four words, the third of which begins with the byte 1
+pub x2-and-x3-left-out-differs :
+    let s = replicate {A = ℕ} 32 0 ++ (1 ∷ replicate 31 0) in
+    fold 32 s ≡ tab 32 (λ k. xorSum (length s / max 32 64) (λ j. getD s (max 32 64 * j + k) 0)) → ⊥
+unfolding fold xor
+x2-and-x3-left-out-differs e =
+    let z : _≡_ {A = ℕ} 1 0 = sym (getD-tab 32 _ 0 (lit< tt)) ∙ ap (λ (l : List ℕ). getD l 0 0) e ∙ getD-tab 32 _ 0 (lit< tt) in
+    omega arith
+
+abbrev past192 : Session
+past192 = made DoublePipe 256 (replicate 16 0) (replicate 128 0) 0 (replicate 192 0 ++ (1 ∷ replicate 31 0))
+
+abbrev unlooked : Session → Bool
+unlooked s =
+    admitted (s .bits)
+    && (leb (s .taken) limit
+    && (allZero (drop (s .taken % blockSize (s .mode) (s .bits)) (take 192 (s .waiting))) && allZero (drop (chainingSize (s .mode) (s .bits)) (s .chaining))))
+
+-- an opened session in double-pipe but for one byte past 192
+pub set-byte-past-192-differs : isSession past192 ≡ unlooked past192 → ⊥
+unfolding isSession admitted allZero blockSize chainingSize
+set-byte-past-192-differs e = true≢false (sym e)

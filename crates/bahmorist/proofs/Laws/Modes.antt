@@ -3,6 +3,7 @@ use mathlib.Core.Path.{_≡_, refl, sym, ap, ap₂, _∙_}
 use mathlib.Core.Bool.{Bool, true, false, not, _||_}
 use mathlib.Core.List.{List, [], _∷_}
 use Prim.Native.Nat.{ℕ, zero, suc, _/_}
+use native.Mathlib.Omega.{arith}
 use borrow.Author.Tests.{eq-eqb, ne-eqb}
 use lib.Dec.{eqb, ltb}
 use lib.ListN.{length}
@@ -64,6 +65,13 @@ module _ (n h : ℕ) (salt message room : List ℕ) where
       by false false false false = refl
 
   module _ (t : Bool) (e : t ≡ noMode n) where
+    pub digest-refuses : t ≡ true → number-in ≡ 0 → ⊥
+    digest-refuses none z = by number (sym (behind true (sym e ∙ none)) ∙ z)
+      where
+        by : (k : ℕ) → unless k 6 k ≡ 0 → ⊥
+        by zero p = omega arith
+        by (suc k) p = omega arith
+
     module _ (none : t ≡ true) (r : ℕ) (d : r ≡ number) where
       pub digest-6 : r ≡ 0 → 6 ≡ number-in
       digest-6 z = sym (behind true (sym e ∙ none) ∙ ap (λ (k : ℕ). unless k 6 k) (sym d ∙ z))
@@ -113,6 +121,14 @@ module _ (n : ℕ) (chaining block : List ℕ) (counter : ℕ) (salt : List ℕ)
   refusal-in = compressInRefusal n (length chaining) (length block) counter (length salt)
 
   module _ (t : Bool) (e : t ≡ noMode n) where
+    pub compress-refuses : t ≡ true → refusal-in ≡ 0 → ⊥
+    unfolding compressInRefusal
+    compress-refuses none z = by (eqb (length salt) 16) (rw (← e, none) at z)
+      where
+        by : (s : Bool) → firstOf ((2 when not s) ∷ (6 when true) ∷ (7 when counterTooHigh counter) ∷ []) ≡ 0 → ⊥
+        by true p = omega arith
+        by false p = omega arith
+
     module _ (none : t ≡ true) where
       pub compress-no-mode-2 : (length salt ≡ 16 → ⊥) → 2 ≡ refusal-in
       unfolding compressInRefusal

@@ -4,11 +4,11 @@
 use mathlib.Core.Path.{_≡_, sym, _∙_}
 use denote.Ref.{now}
 use Rattle.bahmorist.proofs.bahmorist_digest.Reads as bahmorist_digest
-use Rattle.bahmorist.proofs.«bahmorist_digest_in».Reads as digesting
+use Rattle.bahmorist.proofs.bahmorist_digest_in.Reads as digesting
 use Rattle.bahmorist.proofs.bahmorist_rounds.Reads as bahmorist_rounds
 use Rattle.bahmorist.proofs.bahmorist_rounds_back.Reads as bahmorist_rounds_back
 use Rattle.bahmorist.proofs.bahmorist_compress.Reads as bahmorist_compress
-use Rattle.bahmorist.proofs.«bahmorist_compress_in».Reads as compressing
+use Rattle.bahmorist.proofs.bahmorist_compress_in.Reads as compressing
 use Rattle.bahmorist.proofs.bahmorist_fingerprint.Reads as bahmorist_fingerprint
 use Rattle.bahmorist.proofs.bahmorist_hmac.Reads as bahmorist_hmac
 use Rattle.bahmorist.proofs.bahmorist_hmac_check.Reads as bahmorist_hmac_check

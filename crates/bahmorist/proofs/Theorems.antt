@@ -1,16 +1,15 @@
 -- The theorems of this crate that the pages quote, each closed: what it assumes stands in its statement. Assumes nothing.
-use mathlib.Core.Path.{_≡_, refl, sym, _∙_}
+use mathlib.Core.Path.{_≡_, refl, sym}
 use mathlib.Core.Bool.{false, true}
 use mathlib.Core.List.{List}
 use Prim.Native.Nat.{ℕ, suc}
 use borrow.Author.Tests.{ne-eqb}
 use lib.ListN.{length}
 use Rattle.echo.specs.declared.mode.Mode.{Mode}
-use Rattle.echo.specs.declared.mode.Mode.the-variants.{DoublePipe, SinglePipe}
 use Rattle.echo.specs.Families.{modeNumber}
 use Rattle.echo.specs.Routines.{compressLeaves, compressRefusal}
 use Rattle.echo.specs.Session.{digestLeaves, digestRefusal}
-use Rattle.bahmorist.specs.Modes.{compressInLeaves, compressInRefusal, digestInLeaves, digestInRefusal, modeOf, noMode}
+use Rattle.bahmorist.specs.Modes.{compressInLeaves, compressInRefusal, digestInLeaves, digestInRefusal, noMode}
 use Rattle.bahmorist.proofs.Laws.Modes as modes
 
 -- ---- a refusal, whose number is k + 1, changes nothing
@@ -29,16 +28,12 @@ a-refused-compression-in-a-mode-leaves-the-chaining-value k number chaining bloc
 
 -- ---- a mode's number names it, and no other number is taken
 
-is-number : (mode : Mode) → (false ≡ noMode (modeNumber mode)) × (mode ≡ modeOf (modeNumber mode))
-is-number DoublePipe = (refl, refl)
-is-number SinglePipe = (refl, refl)
-
 pub a-digest-in-a-mode-is-that-modes : (mode : Mode) (h : ℕ) (salt message room : List ℕ)
     → (digestInRefusal (modeNumber mode) h (length salt) (length message) (length room)
     ≡ digestRefusal h (length salt) (length message) (length room))
     × (digestInLeaves (modeNumber mode) h salt message room ≡ digestLeaves mode h salt message room)
 a-digest-in-a-mode-is-that-modes mode h salt message room =
-    let N = is-number mode in (
+    let N = modes.is-number mode in (
       sym (modes.digest-passed-on (modeNumber mode) h salt message room false (N .0) refl _ refl),
       sym (modes.digest-left-on (modeNumber mode) h salt message room false (N .0) refl mode (N .1) _ refl),
     )
@@ -48,7 +43,7 @@ pub a-compression-in-a-mode-is-that-modes : (mode : Mode) (chaining block : List
     ≡ compressRefusal mode (length chaining) (length block) counter (length salt))
     × (compressInLeaves (modeNumber mode) chaining block counter salt ≡ compressLeaves mode chaining block counter salt)
 a-compression-in-a-mode-is-that-modes mode chaining block counter salt =
-    let N = is-number mode in (
+    let N = modes.is-number mode in (
       sym (modes.compress-passed-on (modeNumber mode) chaining block counter salt false (N .0) refl mode (N .1) _ refl),
       sym (modes.compress-left-on (modeNumber mode) chaining block counter salt false (N .0) refl mode (N .1) _ refl),
     )
@@ -58,8 +53,8 @@ pub no-other-number-is-taken : (number h : ℕ) (salt message room chaining bloc
     → (number ≡ 1 → ⊥)
     → (digestInRefusal number h (length salt) (length message) (length room) ≡ 0 → ⊥)
     × (compressInRefusal number (length chaining) (length block) counter (length salt) ≡ 0 → ⊥)
-no-other-number-is-taken number h salt message room chaining block counter zero-not one-not =
-    let none : true ≡ noMode number = rw (ne-eqb number 0 zero-not, ne-eqb number 1 one-not) in (
+no-other-number-is-taken number h salt message room chaining block counter z o =
+    let none : true ≡ noMode number = rw (ne-eqb number 0 z, ne-eqb number 1 o) in (
       modes.digest-refuses number h salt message room true none refl,
       modes.compress-refuses number chaining block counter salt true none refl,
     )

@@ -46,7 +46,6 @@ use Rattle.echo.proofs.Laws.ByTables as by-tables
 use Rattle.echo.proofs.Laws.Continued as continued
 use Rattle.echo.proofs.Laws.Folded as folded
 use Rattle.echo.proofs.Laws.Marked as marked
-use Rattle.echo.proofs.Laws.Marked.{sizesAt}
 use Rattle.echo.proofs.Laws.MixedNumbers as mixed-numbers
 use Rattle.echo.proofs.Laws.Padded as padded
 use Rattle.echo.proofs.Laws.SinglePipe as single-pipe
@@ -338,10 +337,10 @@ compress-leaves-section-5-2 = mixing.compress-leaves-section-5-2
 -- ---- the sizes in numbers: chaining variable, block and rounds, up to 256 bits and above; and the longest message of one block with its successor
 pub the-sizes-of-both-modes : Hold
     (((modeNumber DoublePipe ∷ modeNumber SinglePipe ∷ []) gives (0 ∷ 1 ∷ []))
-    ∷ (sizesAt DoublePipe 256 gives (64 ∷ 192 ∷ 8 ∷ []))
-    ∷ (sizesAt DoublePipe 257 gives (128 ∷ 128 ∷ 10 ∷ []))
-    ∷ (sizesAt SinglePipe 256 gives (32 ∷ 224 ∷ 8 ∷ []))
-    ∷ (sizesAt SinglePipe 257 gives (64 ∷ 192 ∷ 10 ∷ []))
+    ∷ ((chainingSize DoublePipe 256 ∷ blockSize DoublePipe 256 ∷ roundCount DoublePipe (chainingSize DoublePipe 256) ∷ []) gives (64 ∷ 192 ∷ 8 ∷ []))
+    ∷ ((chainingSize DoublePipe 257 ∷ blockSize DoublePipe 257 ∷ roundCount DoublePipe (chainingSize DoublePipe 257) ∷ []) gives (128 ∷ 128 ∷ 10 ∷ []))
+    ∷ ((chainingSize SinglePipe 256 ∷ blockSize SinglePipe 256 ∷ roundCount SinglePipe (chainingSize SinglePipe 256) ∷ []) gives (32 ∷ 224 ∷ 8 ∷ []))
+    ∷ ((chainingSize SinglePipe 257 ∷ blockSize SinglePipe 257 ∷ roundCount SinglePipe (chainingSize SinglePipe 257) ∷ []) gives (64 ∷ 192 ∷ 10 ∷ []))
     ∷ ((blockCount (blockSize SinglePipe 256) 205 ∷ blockCount (blockSize SinglePipe 256) 206 ∷ []) gives (1 ∷ 2 ∷ []))
     ∷ ((blockCount (blockSize SinglePipe 512) 173 ∷ blockCount (blockSize SinglePipe 512) 174 ∷ []) gives (1 ∷ 2 ∷ []))
     ∷ [])

@@ -1,5 +1,5 @@
 -- Modes as numbers: what the routines that take one answer and leave, by the tests that the code made. Assumes nothing.
-use mathlib.Core.Path.{_≡_, refl, sym, ap, ap₂, _∙_}
+use mathlib.Core.Path.{_≡_, refl, sym, ap, _∙_}
 use mathlib.Core.Bool.{Bool, true, false, not, _||_}
 use mathlib.Core.List.{List, [], _∷_}
 use Prim.Native.Nat.{ℕ, zero, suc, _/_}
@@ -9,7 +9,7 @@ use lib.Dec.{eqb, ltb}
 use lib.ListN.{length}
 use Rattle.echo.specs.declared.mode.Mode.{Mode}
 use Rattle.echo.specs.declared.mode.Mode.the-variants.{DoublePipe, SinglePipe}
-use Rattle.echo.specs.Families.{sizesFit}
+use Rattle.echo.specs.Families.{modeNumber, sizesFit}
 use Rattle.echo.specs.Refusals.{_when_, counterTooHigh, firstOf, noSalt, unless}
 use Rattle.echo.specs.Routines.{compressLeaves, compressRefusal}
 use Rattle.echo.specs.Session.{admitted, digestLeaves, digestRefusal, limit}
@@ -30,6 +30,10 @@ mode-1 n e = rw e
 
 pub mode-0 : (n : ℕ) → (n ≡ 1 → ⊥) → DoublePipe ≡ modeOf n
 mode-0 n e = rw (ne-eqb n 1 e)
+
+pub is-number : (mode : Mode) → (false ≡ noMode (modeNumber mode)) × (mode ≡ modeOf (modeNumber mode))
+is-number DoublePipe = (refl, refl)
+is-number SinglePipe = (refl, refl)
 
 -- what is left where a routine that refuses by n leaves `done`, and `kept` where n is not 0
 passed-on : (n : ℕ) (done kept : List ℕ) → ((k : ℕ) → n ≡ suc k → done ≡ kept) → done ≡ unless n done kept

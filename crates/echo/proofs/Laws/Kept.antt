@@ -10,7 +10,6 @@ use borrow.Author.Tests.{eq-eqb, ne-eqb}
 use lib.Dec.{eqb}
 use lib.ListN.{drop, length, replicate, take}
 use lib.Seq.{drop-at, drop-drop, drop-set-lt}
-use Rattle.echo.specs.declared.mode.Mode.{Mode}
 use Rattle.echo.specs.declared.session.Session.{Session}
 use Rattle.echo.specs.Compression.{compress}
 use Rattle.echo.specs.Families.{blockSize, chainingSize, roundCount}

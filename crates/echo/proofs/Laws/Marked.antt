@@ -8,7 +8,6 @@ use lib.ListN.{getD, replicate}
 use Rattle.aes_round.specs.Bytes.{tab}
 use Rattle.aes_round.specs.Marked.{Hold, _gives_}
 use Rattle.aes_round.proofs.Laws.Bytes.{is-tab}
-use Rattle.echo.specs.declared.mode.Mode.{Mode}
 use Rattle.echo.specs.declared.mode.Mode.the-variants.{DoublePipe, SinglePipe}
 use Rattle.echo.specs.Digest.{blockCount, counterAt}
 use Rattle.echo.specs.Families.{blockSize, chainingSize, modeNumber, roundCount}
@@ -42,16 +41,13 @@ pub abc-padded : pad (blockSize DoublePipe 256) 256 (0x61 ∷ 0x62 ∷ 0x63 ∷ 
 unfolding blockSize chainingSize pad padding
 abc-padded = ap (λ (e : List ℕ). 0x61 ∷ 0x62 ∷ 0x63 ∷ 0x80 ∷ (replicate 170 0 ++ e)) (sym (lengths-are 256 24 (lit< tt)))
 
--- the sizes of a mode and a digest length: chaining variable, block and rounds
-abbrev pub sizesAt : Mode → ℕ → List ℕ
-sizesAt mode h = chainingSize mode h ∷ blockSize mode h ∷ roundCount mode (chainingSize mode h) ∷ []
-
+-- the sizes of each mode, up to 256 bits and above: chaining variable, block and rounds; and the longest message of one block with its successor
 pub sizes-of-both-modes : Hold
     (((modeNumber DoublePipe ∷ modeNumber SinglePipe ∷ []) gives (0 ∷ 1 ∷ []))
-    ∷ (sizesAt DoublePipe 256 gives (64 ∷ 192 ∷ 8 ∷ []))
-    ∷ (sizesAt DoublePipe 257 gives (128 ∷ 128 ∷ 10 ∷ []))
-    ∷ (sizesAt SinglePipe 256 gives (32 ∷ 224 ∷ 8 ∷ []))
-    ∷ (sizesAt SinglePipe 257 gives (64 ∷ 192 ∷ 10 ∷ []))
+    ∷ ((chainingSize DoublePipe 256 ∷ blockSize DoublePipe 256 ∷ roundCount DoublePipe (chainingSize DoublePipe 256) ∷ []) gives (64 ∷ 192 ∷ 8 ∷ []))
+    ∷ ((chainingSize DoublePipe 257 ∷ blockSize DoublePipe 257 ∷ roundCount DoublePipe (chainingSize DoublePipe 257) ∷ []) gives (128 ∷ 128 ∷ 10 ∷ []))
+    ∷ ((chainingSize SinglePipe 256 ∷ blockSize SinglePipe 256 ∷ roundCount SinglePipe (chainingSize SinglePipe 256) ∷ []) gives (32 ∷ 224 ∷ 8 ∷ []))
+    ∷ ((chainingSize SinglePipe 257 ∷ blockSize SinglePipe 257 ∷ roundCount SinglePipe (chainingSize SinglePipe 257) ∷ []) gives (64 ∷ 192 ∷ 10 ∷ []))
     ∷ ((blockCount (blockSize SinglePipe 256) 205 ∷ blockCount (blockSize SinglePipe 256) 206 ∷ []) gives (1 ∷ 2 ∷ []))
     ∷ ((blockCount (blockSize SinglePipe 512) 173 ∷ blockCount (blockSize SinglePipe 512) 174 ∷ []) gives (1 ∷ 2 ∷ []))
     ∷ [])

@@ -1,9 +1,8 @@
 -- `initial` meets its contract: the loop fills the room from the front, as far as the family uses it. Assumes nothing.
-use mathlib.Core.Path.{_≡_, refl}
+use mathlib.Core.Path.{refl}
 use Prim.Native.Nat.{_%_, _-_, _/_, _^_, _≤_}
 use lib.ListN.{replicate}
 use borrow.Author.Needs.{needs}
-use Rattle.echo.specs.Families.{chainingSize}
 use Rattle.aes_round.proofs.Laws.Fill.{Filled, fill-more, fill-none}
 use Rattle.echo.proofs.Laws.Initial.{in-room, initial-filled}
 use Rattle.echo.proofs.initial.initial.Statement.{statement}

@@ -28,6 +28,8 @@ use Rattle.echo.specs.Session.{
   addRefusal,
   admitted,
   blank,
+  blockOf,
+  chainingOf,
   digestLeaves,
   digestRefusal,
   isSession,
@@ -38,6 +40,7 @@ use Rattle.echo.specs.Session.{
   readAnswer,
   readLeaves,
   readRefusal,
+  roundsOf,
 }
 use Rattle.echo.specs.SinglePipe.{compress51, compress52}
 use Rattle.echo.specs.Square.{bigMixColumns, bigShiftRows, bigSubWords, keysFrom, rounds, roundsBack, word}
@@ -144,12 +147,12 @@ pub every-session-continues-the-iteration : (s : Session) (piece room : List ℕ
     × (readAnswer (addAnswer s piece .session) (length room) .refusal ≡ 0)
     × (readLeaves (addAnswer s piece .session) room
     ≡ take (s .bits / 8)
-    (iterate (chainingSize (s .mode) (s .bits)) (roundCount (s .mode) (chainingSize (s .mode) (s .bits))) (s .salt)
-    (take (chainingSize (s .mode) (s .bits)) (s .chaining))
-    (block (blockSize (s .mode) (s .bits))
-    (take (s .taken % blockSize (s .mode) (s .bits)) (s .waiting) ++ (piece ++ padding (blockSize (s .mode) (s .bits)) (s .bits) (s .taken + length piece))))
-    (λ i. counterAt (blockSize (s .mode) (s .bits)) (s .taken + length piece) (s .taken / blockSize (s .mode) (s .bits) + i))
-    (blockCount (blockSize (s .mode) (s .bits)) (s .taken + length piece) - s .taken / blockSize (s .mode) (s .bits)))
+    (iterate (chainingOf s) (roundsOf s) (s .salt)
+    (take (chainingOf s) (s .chaining))
+    (block (blockOf s)
+    (take (s .taken % blockOf s) (s .waiting) ++ (piece ++ padding (blockOf s) (s .bits) (s .taken + length piece))))
+    (λ i. counterAt (blockOf s) (s .taken + length piece) (s .taken / blockOf s + i))
+    (blockCount (blockOf s) (s .taken + length piece) - s .taken / blockOf s))
     ++ drop (s .bits / 8) room)
 every-session-continues-the-iteration s piece room is c w l r = continued.continues s is c w piece l room r
 

@@ -28,13 +28,23 @@ unfoldable pub allZero : List ℕ → Bool
 allZero [] = true
 allZero (x ∷ xs) = eqb x 0 && allZero xs
 
+-- the sizes of a session, by its mode and h
+abbrev pub chainingOf : Session → ℕ
+chainingOf s = chainingSize (s .mode) (s .bits)
+
+abbrev pub blockOf : Session → ℕ
+blockOf s = blockSize (s .mode) (s .bits)
+
+abbrev pub roundsOf : Session → ℕ
+roundsOf s = roundCount (s .mode) (chainingOf s)
+
 -- h is admitted, the count is at most the limit, waiting bytes beyond those in use are zero, and so is the chaining room that mode and h
 -- don't use
 unfoldable pub isSession : Session → Bool
 isSession s =
     admitted (s .bits)
     && (leb (s .taken) limit
-    && (allZero (drop (s .taken % blockSize (s .mode) (s .bits)) (s .waiting)) && allZero (drop (chainingSize (s .mode) (s .bits)) (s .chaining))))
+    && (allZero (drop (s .taken % blockOf s) (s .waiting)) && allZero (drop (chainingOf s) (s .chaining))))
 
 -- a session of its parts, for contracts of private functions
 abbrev pub made : Mode → ℕ → List ℕ → List ℕ → ℕ → List ℕ → Session
@@ -68,7 +78,7 @@ openAnswer mode h salt =
 
 -- the waiting block with one byte more, behind those in use
 abbrev pub waitingWith : Session → ℕ → List ℕ
-waitingWith s x = set (s .waiting) (s .taken % blockSize (s .mode) (s .bits)) x
+waitingWith s x = set (s .waiting) (s .taken % blockOf s) x
 
 -- chaining room whose variable has taken a block with a counter
 abbrev pub compressed : Mode → ℕ → List ℕ → List ℕ → ℕ → List ℕ → List ℕ
@@ -82,7 +92,7 @@ filledBy s x = record {
   mode = s .mode;
   bits = s .bits;
   salt = s .salt;
-  chaining = compressed (s .mode) (s .bits) (s .salt) (s .chaining) (8 * (s .taken + 1)) (take (blockSize (s .mode) (s .bits)) (waitingWith s x));
+  chaining = compressed (s .mode) (s .bits) (s .salt) (s .chaining) (8 * (s .taken + 1)) (take (blockOf s) (waitingWith s x));
   taken = s .taken + 1;
   waiting = replicate 224 0;
 }
@@ -92,7 +102,7 @@ longerBy s x = record { mode = s .mode; bits = s .bits; salt = s .salt; chaining
 
 -- a block is compressed as soon as it is full
 unfoldable pub addByte : Session → ℕ → Session
-addByte s x = either (eqb (s .taken % blockSize (s .mode) (s .bits) + 1) (blockSize (s .mode) (s .bits))) (filledBy s x) (longerBy s x)
+addByte s x = either (eqb (s .taken % blockOf s + 1) (blockOf s)) (filledBy s x) (longerBy s x)
 
 unfoldable pub addBytes : Session → List ℕ → Session
 addBytes s [] = s
@@ -111,10 +121,10 @@ addAnswer s piece =
 -- the paper's iteration, continued from the chaining value, n and the waiting bytes, over the blocks that are left
 unfoldable pub finalChaining : Session → List ℕ
 finalChaining s =
-    let b = blockSize (s .mode) (s .bits) in
-    let c = chainingSize (s .mode) (s .bits) in
+    let b = blockOf s in
+    let c = chainingOf s in
     let n = s .taken in
-    iterate c (roundCount (s .mode) c) (s .salt) (take c (s .chaining)) (block b (take (n % b) (s .waiting) ++ padding b (s .bits) n)) (λ i. counterAt b n (n / b + i))
+    iterate c (roundsOf s) (s .salt) (take c (s .chaining)) (block b (take (n % b) (s .waiting) ++ padding b (s .bits) n)) (λ i. counterAt b n (n / b + i))
     (blockCount b n - n / b)
 
 unfoldable pub sessionDigest : Session → List ℕ

@@ -6,8 +6,8 @@
  *
  * Link target/staticlib/libbahmorist.a, which `rt staticlib bahmorist` makes for x86-64 Linux; `tools/library` makes
  * target/native/libbahmorist.a for the machine at hand. The library keeps nothing between calls, allocates nothing and may be called from
- * several threads at once. As it is compiled today no call takes more than 8,000 bytes of stack, and those that make and check tags no more
- * than 15,000, what the C library's memcpy and memset take not counted; 4,096 of them are tables, which a build for a task with little stack does
+ * several threads at once. As it is compiled today no call takes more than 8,500 bytes of stack, and those that make and check tags no more
+ * than 16,000, what the C library's memcpy and memset take not counted; 4,096 of them are tables, which a build for a task with little stack does
  * without (docs/DECISIONS.md, "Two paths"). The code for x86-64 uses the SSE2 registers, which a kernel has to save around a call.
  *
  * How long a call takes depends on the data, keys included: the substitution is in tables, and which entries are read depends on what is

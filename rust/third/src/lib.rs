@@ -70,8 +70,8 @@ pub fn digest(mode: Mode, bits: u64, salt: &Word, message: &[u8]) -> Option<Vec<
 }
 
 /// The tag of `bits` bits under a key, by digests in double-pipe; none where the
-/// processor has no such instruction. Panics unless the digest length is a multiple of 8 from 128 to
-/// 512.
+/// processor has no such instruction. Panics unless the digest length is a multiple
+/// of 8 from 128 to 512.
 pub fn hmac(bits: u64, salt: &Word, key: &[u8], message: &[u8]) -> Option<Vec<u8>> {
     hmac::hmac(bits, salt, key, message)
 }

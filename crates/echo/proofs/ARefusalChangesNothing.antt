@@ -40,8 +40,8 @@ module _ (k : ℕ) where
   unfolding readLeaves
   a-refused-reading-leaves-the-room s room e = rw e refl
 
-  pub a-refused-digest-leaves-the-room : (mode : Mode) (h : ℕ) (salt message room : List ℕ) → digestRefusal h (length salt) (length message) (length room) ≡ suc k
-      → digestLeaves mode h salt message room ≡ room
+  pub a-refused-digest-leaves-the-room : (mode : Mode) (h : ℕ) (salt message room : List ℕ)
+      → digestRefusal h (length salt) (length message) (length room) ≡ suc k → digestLeaves mode h salt message room ≡ room
   unfolding digestLeaves
   a-refused-digest-leaves-the-room mode h salt message room e = rw e refl
 

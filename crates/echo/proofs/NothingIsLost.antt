@@ -86,7 +86,8 @@ compress-leaves-the-folds mode chaining block counter salt z =
     (block-parts (length chaining) (length block) (256 / length chaining) square parts)
 
 -- what it leaves in single-pipe, as section 5 prints it
-module _ (chaining block : List ℕ) (counter : ℕ) (salt : List ℕ) (z : compressRefusal SinglePipe (length chaining) (length block) counter (length salt) ≡ 0) where
+module _ (chaining block : List ℕ) (counter : ℕ) (salt : List ℕ)
+    (z : compressRefusal SinglePipe (length chaining) (length block) counter (length salt) ≡ 0) where
   leaves : (c n : ℕ) → length chaining ≡ c → roundCount SinglePipe c ≡ n
       → (compressLeaves SinglePipe chaining block counter salt ≡ compress c n (keysFrom counter) salt chaining block) × (c + length block ≡ 256)
   unfolding compressLeaves
@@ -97,10 +98,12 @@ module _ (chaining block : List ℕ) (counter : ℕ) (salt : List ℕ) (z : comp
     ap (λ (x : ℕ). x + length block) (sym l) ∙ compress-square SinglePipe chaining block counter salt _ refl z,
   )
 
-  pub compress-leaves-section-5-1 : length chaining ≡ 32 → compressLeaves SinglePipe chaining block counter salt ≡ compress51 (keysFrom counter) salt chaining block
+  pub compress-leaves-section-5-1 : length chaining ≡ 32
+      → compressLeaves SinglePipe chaining block counter salt ≡ compress51 (keysFrom counter) salt chaining block
   unfolding chainingSize
   compress-leaves-section-5-1 l = let L = leaves 32 8 l refl in L .0 ∙ as-printed-51 (keysFrom counter) salt chaining block l (omega (arith, L .1))
 
-  pub compress-leaves-section-5-2 : length chaining ≡ 64 → compressLeaves SinglePipe chaining block counter salt ≡ compress52 (keysFrom counter) salt chaining block
+  pub compress-leaves-section-5-2 : length chaining ≡ 64
+      → compressLeaves SinglePipe chaining block counter salt ≡ compress52 (keysFrom counter) salt chaining block
   unfolding chainingSize
   compress-leaves-section-5-2 l = let L = leaves 64 10 l refl in L .0 ∙ as-printed-52 (keysFrom counter) salt chaining block l (omega (arith, L .1))

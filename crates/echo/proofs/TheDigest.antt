@@ -87,7 +87,8 @@ module _ (mode : Mode) (h : ℕ) (salt : List ℕ) (a : admitted h ≡ true) (l 
 
   -- and so does the digest at once
   pub at-once-is-the-digest : (message room : List ℕ) → length message ≤ limit → h / 8 ≤ length room
-      → (digestRefusal h (length salt) (length message) (length room) ≡ 0) × (digestLeaves mode h salt message room ≡ digestOf mode h salt message ++ drop (h / 8) room)
+      → (digestRefusal h (length salt) (length message) (length room) ≡ 0)
+      × (digestLeaves mode h salt message room ≡ digestOf mode h salt message ++ drop (h / 8) room)
   unfolding digestLeaves
   at-once-is-the-digest message room m r =
       let n = sym (digest-0 h (length salt) (length message) (length room) true (sym a) refl l m r) in

@@ -43,7 +43,8 @@ the-key-block-is-a-block h salt key a = by (ltb (blockSize h) (length key)) refl
     by : (t : Bool) → ltb (blockSize h) (length key) ≡ t → length (keyBlock (digestOf h salt) (blockSize h) key) ≡ blockSize h
     by true p =
         let S = double-block h in
-        rw p (length-with-zeros (blockSize h) (digestOf h salt key) (omega (arith, digest-long DoublePipe h salt a key, admitted-most DoublePipe h salt true (sym a) refl)))
+        let most = admitted-most DoublePipe h salt true (sym a) refl in
+        rw p (length-with-zeros (blockSize h) (digestOf h salt key) (omega (arith, digest-long DoublePipe h salt a key, most)))
     by false p = rw p (length-with-zeros (blockSize h) key (ltb-false (blockSize h) (length key) p))
 
 -- any record, a tag session or none

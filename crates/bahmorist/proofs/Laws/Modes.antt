@@ -54,7 +54,8 @@ module _ (n h : ℕ) (salt message room : List ℕ) where
   unfolding digestInRefusal
   behind t e =
       ap (λ (x : Bool). firstOf
-      ((1 when not (admitted h)) ∷ (2 when noSalt (length salt)) ∷ (4 when ltb limit (length message)) ∷ (5 when ltb (length room) (h / 8)) ∷ (6 when x) ∷ [])) e
+      ((1 when not (admitted h)) ∷ (2 when noSalt (length salt)) ∷ (4 when ltb limit (length message))
+      ∷ (5 when ltb (length room) (h / 8)) ∷ (6 when x) ∷ [])) e
       ∙ by (not (admitted h)) (noSalt (length salt)) (ltb limit (length message)) (ltb (length room) (h / 8))
       ∙ ap (λ (k : ℕ). unless k (firstOf ((6 when t) ∷ [])) k) (sym (digest-number h (length salt) (length message) (length room)))
     where

@@ -1,4 +1,5 @@
--- `bahmorist_compress_in` meets its contract: a number that is no mode's is refused behind the salt, and any other names the mode of a compression. Assumes nothing.
+-- `bahmorist_compress_in` meets its contract: a number that is no mode's is refused behind the salt, and any other names the mode.
+-- Assumes nothing.
 use borrow.Author.Needs.{needs}
 use Rattle.bahmorist.proofs.Laws.Modes.{compress-left-on, compress-no-mode-2, compress-no-mode-6, compress-passed-on, no-mode-keeps}
 use Rattle.bahmorist.proofs.bahmorist_compress_in.Statement.{statement}

@@ -125,7 +125,8 @@ module _ (s : Session) (is : isSession s ≡ true) (lc : length (s .chaining) �
         ap sessionDigest added-is
         ∙ ap (take (h / 8))
         (state-final mode h (s .salt) v rest q v-long (waits ++ piece)
-        ∙ ap (λ (k : ℕ). iterate c (roundCount mode c) (s .salt) v (block b ((waits ++ piece) ++ padding b h k)) (λ i. counterAt b k (q + i)) (blockCount b k - q))
+        ∙ ap
+        (λ (k : ℕ). iterate c (roundCount mode c) (s .salt) v (block b ((waits ++ piece) ++ padding b h k)) (λ i. counterAt b k (q + i)) (blockCount b k - q))
         count-is
         ∙ ap (λ (l : List ℕ). iterate c (roundCount mode c) (s .salt) v (block b l) (λ i. counterAt b n (q + i)) (blockCount b n - q))
         (append-assoc waits piece (padding b h n)))

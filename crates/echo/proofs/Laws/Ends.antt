@@ -225,8 +225,8 @@ module _ (mode : Mode) (h b : ℕ) (size : b ≡ blockSize mode h) where
     pub lengths-within : b - 18 + length e ≤ length w
     lengths-within = let S = sizes mode h in omega arith
 
-    pub closed-block : (n k : ℕ) (salt v t u : List ℕ) → u ≡ compressed mode h salt v k (take (blockSize mode h) t) → Placed w (b - 18) e (length e) t → e ≡ lengthsOf h n
-        → u ≡ compressed mode h salt v k (take (blockSize mode h - 18) w ++ lengthsOf h n)
+    pub closed-block : (n k : ℕ) (salt v t u : List ℕ) → u ≡ compressed mode h salt v k (take (blockSize mode h) t) → Placed w (b - 18) e (length e) t
+        → e ≡ lengthsOf h n → u ≡ compressed mode h salt v k (take (blockSize mode h - 18) w ++ lengthsOf h n)
     closed-block n k salt v t u r P d =
         let S = sizes mode h in
         r
@@ -241,7 +241,8 @@ abbrev step : Mode → ℕ → List ℕ → ℕ → List ℕ → List ℕ → Li
 step mode h salt k = compress (chainingSize mode h) (roundCount mode (chainingSize mode h)) (keysFrom k) salt
 
 -- the chaining variable of the room that has taken a block
-taken-in : (mode : Mode) (h : ℕ) (salt v : List ℕ) (k : ℕ) (m : List ℕ) → take (chainingSize mode h) (compressed mode h salt v k m) ≡ step mode h salt k (take (chainingSize mode h) v) m
+taken-in : (mode : Mode) (h : ℕ) (salt v : List ℕ) (k : ℕ) (m : List ℕ)
+    → take (chainingSize mode h) (compressed mode h salt v k m) ≡ step mode h salt k (take (chainingSize mode h) v) m
 unfolding compress bigFinal
 taken-in mode h salt v k m = take-at _ (drop (chainingSize mode h) v) (chainingSize mode h) (length-xor (chainingSize mode h) _ _)
 
@@ -261,10 +262,13 @@ module _ (mode : Mode) (h n : ℕ) (salt v w : List ℕ) (lw : length w ≡ 224)
   first-in u m e f =
       ap (take (chainingSize mode h)) e
       ∙ taken-in mode h salt v _ m
-      ∙ ap₂ (λ (x : ℕ) (y : List ℕ). step mode h salt x (take (chainingSize mode h) v) y) (sym (first-counter (blockSize mode h) n (sizes mode h .block-least))) f
+      ∙ ap₂ (λ (x : ℕ) (y : List ℕ). step mode h salt x (take (chainingSize mode h) v) y)
+      (sym (first-counter (blockSize mode h) n (sizes mode h .block-least))) f
 
   final-one : n % blockSize mode h + 19 ≤ blockSize mode h → (u : List ℕ)
-      → u ≡ compressed mode h salt v (either (eqb (n % blockSize mode h) 0) 0 (8 * n)) (take (blockSize mode h - 18) (set w (n % blockSize mode h) 0x80) ++ lengthsOf h n)
+      → u
+      ≡ compressed mode h salt v (either (eqb (n % blockSize mode h) 0) 0 (8 * n))
+      (take (blockSize mode h - 18) (set w (n % blockSize mode h) 0x80) ++ lengthsOf h n)
       → take (chainingSize mode h) u ≡ finalChaining (made mode h salt v n w)
   unfolding finalChaining iterate
   final-one k u e =
@@ -274,7 +278,8 @@ module _ (mode : Mode) (h n : ℕ) (salt v w : List ℕ) (lw : length w ≡ 224)
 
   final-two : blockSize mode h < n % blockSize mode h + 19 → (u : List ℕ)
       → u ≡ compressed mode h salt v (either (eqb (n % blockSize mode h) 0) 0 (8 * n)) (take (blockSize mode h) (set w (n % blockSize mode h) 0x80))
-      → take (chainingSize mode h) (compressed mode h salt u 0 (take (blockSize mode h - 18) (replicate 224 0) ++ lengthsOf h n)) ≡ finalChaining (made mode h salt v n w)
+      → take (chainingSize mode h) (compressed mode h salt u 0 (take (blockSize mode h - 18) (replicate 224 0) ++ lengthsOf h n))
+      ≡ finalChaining (made mode h salt v n w)
   unfolding finalChaining iterate
   final-two k u e =
       let S = sizes mode h in

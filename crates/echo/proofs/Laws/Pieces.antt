@@ -39,7 +39,8 @@ joined-lengths (x ∷ xs) ys = omega (arith, length-append x (joined (xs ++ ys))
 
 -- ---- openings that are refused
 
-pub opening-number : (mode : Mode) (h : ℕ) (salt : List ℕ) → openAnswer mode h salt .refusal ≡ firstOf ((1 when not (admitted h)) ∷ (2 when noSalt (length salt)) ∷ [])
+pub opening-number : (mode : Mode) (h : ℕ) (salt : List ℕ)
+    → openAnswer mode h salt .refusal ≡ firstOf ((1 when not (admitted h)) ∷ (2 when noSalt (length salt)) ∷ [])
 unfolding openAnswer openRefusal
 opening-number mode h salt = refl
 

@@ -161,7 +161,8 @@ record CompressFit (mode : Mode) (chaining block counter salt : ℕ) : Type 0 wh
   sizes-are : Sizes chaining block (roundCount mode chaining)
   counter-fits : counter ≤ 2 ^ 64 - 161
 
-compress-fit : (mode : Mode) (chaining block counter salt : ℕ) → compressRefusal mode chaining block counter salt ≡ 0 → CompressFit mode chaining block counter salt
+compress-fit : (mode : Mode) (chaining block counter salt : ℕ) → compressRefusal mode chaining block counter salt ≡ 0
+    → CompressFit mode chaining block counter salt
 unfolding compressRefusal
 compress-fit mode chaining block counter salt e =
     let high = ltb (2 ^ 64 - 161) counter in
@@ -198,8 +199,8 @@ module _ (square : List ℕ) (count counter : ℕ) (salt : List ℕ) (r : ℕ) (
   pub rounds-counters : counter + 16 * count ≤ 2 ^ 64
   rounds-counters = ⊎-elim (λ e. omega (arith, fit .counter-fits)) (λ e. omega (arith, fit .counter-fits)) (fit .count-fits)
 
-module _ (mode : Mode) (chaining block : List ℕ) (counter : ℕ) (salt : List ℕ) (r : ℕ) (e : r ≡ compressRefusal mode (length chaining) (length block) counter (length salt))
-    (none : r ≡ 0) where
+module _ (mode : Mode) (chaining block : List ℕ) (counter : ℕ) (salt : List ℕ) (r : ℕ)
+    (e : r ≡ compressRefusal mode (length chaining) (length block) counter (length salt)) (none : r ≡ 0) where
   fits : CompressFit mode (length chaining) (length block) counter (length salt)
   fits = compress-fit mode (length chaining) (length block) counter (length salt) (sym e ∙ none)
 

@@ -131,7 +131,8 @@ module _ (mode : Mode) (h : ℕ) (salt : List ℕ) (a : Bool) (e : a ≡ admitte
 -- ---- reading
 
 -- the first n bytes of the chaining room are those of the chaining variable
-cut : (s : Session) (v : List ℕ) → length v ≡ 128 → s .bits ≤ 512 → take (chainingSize (s .mode) (s .bits)) v ≡ finalChaining s → take (s .bits / 8) v ≡ sessionDigest s
+cut : (s : Session) (v : List ℕ) → length v ≡ 128 → s .bits ≤ 512 → take (chainingSize (s .mode) (s .bits)) v ≡ finalChaining s
+    → take (s .bits / 8) v ≡ sessionDigest s
 unfolding sessionDigest
 cut s v l h e =
     let S = sizes (s .mode) (s .bits) in

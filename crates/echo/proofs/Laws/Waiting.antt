@@ -115,7 +115,8 @@ module _ (mode : Mode) (bits taken : ℕ) (salt v₀ w₀ piece : List ℕ) wher
 
   module _ (i : ℕ) (v w : List ℕ) (at : ℕ) (A : Absorbed mode bits taken salt v₀ w₀ piece i v w at) where
     pub absorb-more : i < length piece → (v′ w′ : List ℕ) (at′ : ℕ) → length v′ ≡ length v → length w′ ≡ length w
-        → at′ ≡ (taken + i + 1) % blockSize mode bits → made mode bits salt v′ (taken + i + 1) w′ ≡ addByte (made mode bits salt v (taken + i) w) (getD piece i 0)
+        → at′ ≡ (taken + i + 1) % blockSize mode bits
+        → made mode bits salt v′ (taken + i + 1) w′ ≡ addByte (made mode bits salt v (taken + i) w) (getD piece i 0)
         → Absorbed mode bits taken salt v₀ w₀ piece (i + 1) v′ w′ at′
     unfolding addBytes
     absorb-more h v′ w′ at′ lv lw p e = record {

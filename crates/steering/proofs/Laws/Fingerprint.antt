@@ -61,7 +61,8 @@ takes salt t room z =
     let r = stays 4 (ltb (length room) 32) _ _ refl (p .1) in
     let salt-fits = eqb-true (length salt) 16 (p .0) in
     let room-fits = ltb-false (length room) 32 (r .0) in
-    rw (p .0, r .0, eq-eqb _ 0 (r .1)) (at-once-is-the-digest DoublePipe 256 salt t room admitted-256 salt-fits (omega (arith, not-too-long t (r .1))) room-fits)
+    let short = not-too-long t (r .1) in
+    rw (p .0, r .0, eq-eqb _ 0 (r .1)) (at-once-is-the-digest DoublePipe 256 salt t room admitted-256 salt-fits (omega (arith, short)) room-fits)
 
 -- ---- the answers
 

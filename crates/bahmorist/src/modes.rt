@@ -1,5 +1,4 @@
 // Modes as numbers: 0 double-pipe, 1 single-pipe.
-ghost use mathlib.Core.Bool.{not};
 ghost use mathlib.Core.Path.{_≡_};
 ghost use Rattle.bahmorist.specs.Modes.{modeOf, noMode};
 use echo::Mode;

@@ -1,15 +1,15 @@
 -- Modes as numbers, for C, and what the routines that take such a number answer and leave behind, on every input. Assumes nothing.
 use mathlib.Core.Bool.{Bool, not, _||_}
 use mathlib.Core.List.{List, [], _∷_}
-use Prim.Native.Nat.{ℕ, _/_}
-use lib.Dec.{eqb, ltb}
+use Prim.Native.Nat.{ℕ}
+use lib.Dec.{eqb}
 use lib.ListN.{length}
 use Rattle.echo.specs.declared.mode.Mode.{Mode}
 use Rattle.echo.specs.declared.mode.Mode.the-variants.{DoublePipe, SinglePipe}
 use Rattle.echo.specs.Families.{either, modeNumber, sizesFit}
 use Rattle.echo.specs.Refusals.{_when_, counterTooHigh, firstOf, noSalt, unless}
 use Rattle.echo.specs.Routines.{compressLeaves}
-use Rattle.echo.specs.Session.{admitted, digestLeaves, limit}
+use Rattle.echo.specs.Session.{digestLeaves, digestRefusal}
 
 -- 6: the number is no mode's
 abbrev pub noMode : ℕ → Bool
@@ -21,15 +21,11 @@ modeOf number = either (eqb number (modeNumber SinglePipe)) SinglePipe DoublePip
 
 -- ---- the digest at once
 
+-- the digest's own refusals, by 1, 2, 4 or 5, and then 6
 unfoldable pub digestInRefusal : ℕ → ℕ → ℕ → ℕ → ℕ → ℕ
 digestInRefusal number h saltLength messageLength room =
-    firstOf
-    ((1 when not (admitted h))
-    ∷ (2 when noSalt saltLength)
-    ∷ (4 when ltb limit messageLength)
-    ∷ (5 when ltb room (h / 8))
-    ∷ (6 when noMode number)
-    ∷ [])
+    let refusal = digestRefusal h saltLength messageLength room in
+    unless refusal (firstOf ((6 when noMode number) ∷ [])) refusal
 
 unfoldable pub digestInLeaves : ℕ → ℕ → List ℕ → List ℕ → List ℕ → List ℕ
 digestInLeaves number h salt message room =

@@ -2,18 +2,18 @@
 use mathlib.Core.Path.{_≡_, refl, sym, ap, _∙_}
 use mathlib.Core.Bool.{Bool, true, false, not, _||_}
 use mathlib.Core.List.{List, [], _∷_}
-use Prim.Native.Nat.{ℕ, zero, suc, _/_}
+use Prim.Native.Nat.{ℕ, zero, suc}
 use native.Mathlib.Omega.{arith}
 use borrow.Author.Tests.{eq-eqb, ne-eqb}
-use lib.Dec.{eqb, ltb}
+use lib.Dec.{eqb}
 use lib.ListN.{length}
 use Rattle.echo.specs.declared.mode.Mode.{Mode}
 use Rattle.echo.specs.declared.mode.Mode.the-variants.{DoublePipe, SinglePipe}
 use Rattle.echo.specs.Families.{modeNumber, sizesFit}
 use Rattle.echo.specs.Refusals.{_when_, counterTooHigh, firstOf, noSalt, unless}
 use Rattle.echo.specs.Routines.{compressLeaves, compressRefusal}
-use Rattle.echo.specs.Session.{admitted, digestLeaves, digestRefusal, limit}
-use Rattle.echo.proofs.Laws.Refusals.{compress-number, digest-number}
+use Rattle.echo.specs.Session.{digestLeaves, digestRefusal}
+use Rattle.echo.proofs.Laws.Refusals.{compress-number}
 use Rattle.echo.proofs.Theorems.{a-refused-compression-leaves-the-chaining-value, a-refused-digest-leaves-the-room}
 use Rattle.bahmorist.specs.Modes.{compressInLeaves, compressInRefusal, digestInLeaves, digestInRefusal, modeOf, noMode}
 
@@ -49,25 +49,10 @@ module _ (n h : ℕ) (salt message room : List ℕ) where
   abbrev number-in : ℕ
   number-in = digestInRefusal n h (length salt) (length message) (length room)
 
-  -- 6 stands behind the others
+  -- by what is known of the number n
   behind : (t : Bool) → noMode n ≡ t → number-in ≡ unless number (firstOf ((6 when t) ∷ [])) number
   unfolding digestInRefusal
-  behind t e =
-      ap (λ (x : Bool). firstOf
-      ((1 when not (admitted h)) ∷ (2 when noSalt (length salt)) ∷ (4 when ltb limit (length message))
-      ∷ (5 when ltb (length room) (h / 8)) ∷ (6 when x) ∷ [])) e
-      ∙ by (not (admitted h)) (noSalt (length salt)) (ltb limit (length message)) (ltb (length room) (h / 8))
-      ∙ ap (λ (k : ℕ). unless k (firstOf ((6 when t) ∷ [])) k) (sym (digest-number h (length salt) (length message) (length room)))
-    where
-      by : (a b c d : Bool)
-          → firstOf ((1 when a) ∷ (2 when b) ∷ (4 when c) ∷ (5 when d) ∷ (6 when t) ∷ [])
-          ≡ unless (firstOf ((1 when a) ∷ (2 when b) ∷ (4 when c) ∷ (5 when d) ∷ [])) (firstOf ((6 when t) ∷ []))
-          (firstOf ((1 when a) ∷ (2 when b) ∷ (4 when c) ∷ (5 when d) ∷ []))
-      by true b c d = refl
-      by false true c d = refl
-      by false false true d = refl
-      by false false false true = refl
-      by false false false false = refl
+  behind t e = ap (λ (x : Bool). unless number (firstOf ((6 when x) ∷ [])) number) e
 
   module _ (t : Bool) (e : t ≡ noMode n) where
     pub digest-refuses : t ≡ true → number-in ≡ 0 → ⊥

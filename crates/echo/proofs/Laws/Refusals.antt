@@ -102,12 +102,6 @@ pub compress-number : (mode : Mode) (chaining block counter salt : ℕ)
 unfolding compressRefusal
 compress-number mode chaining block counter salt = refl
 
-pub digest-number : (bits salt message room : ℕ)
-    → digestRefusal bits salt message room
-    ≡ firstOf ((1 when not (admitted bits)) ∷ (2 when noSalt salt) ∷ (4 when ltb limit message) ∷ (5 when ltb room (bits / 8)) ∷ [])
-unfolding digestRefusal
-digest-number bits salt message room = refl
-
 -- ---- what no refusal means
 
 none-first : (n : ℕ) (b : Bool) (rest : List Refusal) → (n ≡ 0 → ⊥) → firstOf ((n when b) ∷ rest) ≡ 0 → (b ≡ false) × (firstOf rest ≡ 0)

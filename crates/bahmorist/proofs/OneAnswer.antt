@@ -7,8 +7,11 @@ use Rattle.bahmorist.proofs.bahmorist_digest.Reads as bahmorist_digest
 use Rattle.bahmorist.proofs.bahmorist_digest_in.Reads as digesting
 use Rattle.bahmorist.proofs.bahmorist_rounds.Reads as bahmorist_rounds
 use Rattle.bahmorist.proofs.bahmorist_rounds_back.Reads as bahmorist_rounds_back
+use Rattle.bahmorist.proofs.bahmorist_rounds_wide.Reads as bahmorist_rounds_wide
+use Rattle.bahmorist.proofs.bahmorist_rounds_back_wide.Reads as rounding_back
 use Rattle.bahmorist.proofs.bahmorist_compress.Reads as bahmorist_compress
 use Rattle.bahmorist.proofs.bahmorist_compress_in.Reads as compressing
+use Rattle.bahmorist.proofs.bahmorist_compress_wide.Reads as compressing_wide
 use Rattle.bahmorist.proofs.bahmorist_fingerprint.Reads as bahmorist_fingerprint
 use Rattle.bahmorist.proofs.bahmorist_hmac.Reads as bahmorist_hmac
 use Rattle.bahmorist.proofs.bahmorist_hmac_check.Reads as bahmorist_hmac_check
@@ -29,6 +32,14 @@ pub bahmorist-rounds-back-has-one-answer : (κs : _) (a : _) (r r′ : _) (s s�
     → (r ≡ r′) × (now (s .0) ≡ now (s′ .0))
 bahmorist-rounds-back-has-one-answer κs a r r′ s s′ p q = (p .0 ∙ sym (q .0), p .1 ∙ sym (q .1))
 
+pub bahmorist-rounds-wide-has-one-answer : (κs : _) (a : _) (r r′ : _) (s s′ : _) → bahmorist_rounds_wide.Post κs a r s → bahmorist_rounds_wide.Post κs a r′ s′
+    → (r ≡ r′) × (now (s .0) ≡ now (s′ .0))
+bahmorist-rounds-wide-has-one-answer κs a r r′ s s′ p q = (p .0 ∙ sym (q .0), p .1 ∙ sym (q .1))
+
+pub bahmorist-rounds-back-wide-has-one-answer : (κs : _) (a : _) (r r′ : _) (s s′ : _) → rounding_back.Post κs a r s → rounding_back.Post κs a r′ s′
+    → (r ≡ r′) × (now (s .0) ≡ now (s′ .0))
+bahmorist-rounds-back-wide-has-one-answer κs a r r′ s s′ p q = (p .0 ∙ sym (q .0), p .1 ∙ sym (q .1))
+
 pub bahmorist-compress-has-one-answer : (κs : _) (a : _) (r r′ : _) (s s′ : _) → bahmorist_compress.Post κs a r s → bahmorist_compress.Post κs a r′ s′
     → (r ≡ r′) × (now (s .0) ≡ now (s′ .0))
 bahmorist-compress-has-one-answer κs a r r′ s s′ p q = (p .0 ∙ sym (q .0), p .1 ∙ sym (q .1))
@@ -36,6 +47,10 @@ bahmorist-compress-has-one-answer κs a r r′ s s′ p q = (p .0 ∙ sym (q .0)
 pub bahmorist-compress-in-has-one-answer : (κs : _) (a : _) (r r′ : _) (s s′ : _) → compressing.Post κs a r s → compressing.Post κs a r′ s′
     → (r ≡ r′) × (now (s .1 .0) ≡ now (s′ .1 .0))
 bahmorist-compress-in-has-one-answer κs a r r′ s s′ p q = (p .0 ∙ sym (q .0), p .1 ∙ sym (q .1))
+
+pub bahmorist-compress-wide-has-one-answer : (κs : _) (a : _) (r r′ : _) (s s′ : _) → compressing_wide.Post κs a r s → compressing_wide.Post κs a r′ s′
+    → (r ≡ r′) × (now (s .1 .0) ≡ now (s′ .1 .0))
+bahmorist-compress-wide-has-one-answer κs a r r′ s s′ p q = (p .0 ∙ sym (q .0), p .1 ∙ sym (q .1))
 
 pub bahmorist-fingerprint-has-one-answer : (κs : _) (a : _) (r r′ : _) (s s′ : _) → bahmorist_fingerprint.Post κs a r s → bahmorist_fingerprint.Post κs a r′ s′
     → (r ≡ r′) × (now (s .1 .1 .0) ≡ now (s′ .1 .1 .0)) × (now (s .1 .1 .1 .0) ≡ now (s′ .1 .1 .1 .0))

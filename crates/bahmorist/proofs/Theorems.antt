@@ -7,9 +7,10 @@ use borrow.Author.Tests.{ne-eqb}
 use lib.ListN.{length}
 use Rattle.echo.specs.declared.mode.Mode.{Mode}
 use Rattle.echo.specs.Families.{modeNumber}
-use Rattle.echo.specs.Routines.{compressLeaves, compressRefusal}
+use Rattle.echo.specs.Routines.{compressLeaves, compressRefusal, compressWideLeaves, compressWideRefusal}
 use Rattle.echo.specs.Session.{digestLeaves, digestRefusal}
-use Rattle.bahmorist.specs.Modes.{compressInLeaves, compressInRefusal, digestInLeaves, digestInRefusal, noMode}
+use Rattle.bahmorist.specs.Modes.{compressInLeaves, compressInRefusal, compressWideInLeaves, compressWideInRefusal}
+use Rattle.bahmorist.specs.Modes.{digestInLeaves, digestInRefusal, noMode}
 use Rattle.bahmorist.proofs.Laws.Modes as modes
 
 -- ---- a refusal, whose number is k + 1, changes nothing
@@ -25,6 +26,12 @@ pub a-refused-compression-in-a-mode-leaves-the-chaining-value : (k number : ℕ)
     → compressInLeaves number chaining block counter salt ≡ chaining
 unfolding compressInLeaves
 a-refused-compression-in-a-mode-leaves-the-chaining-value k number chaining block counter salt e = rw e refl
+
+pub a-refused-wide-compression-in-a-mode-leaves-the-chaining-value : (k number : ℕ) (chaining block : List ℕ) (counter : ℕ) (salt : List ℕ)
+    → compressWideInRefusal number (length chaining) (length block) (length salt) ≡ suc k
+    → compressWideInLeaves number chaining block counter salt ≡ chaining
+unfolding compressWideInLeaves
+a-refused-wide-compression-in-a-mode-leaves-the-chaining-value k number chaining block counter salt e = rw e refl
 
 -- ---- a mode's number names it, and no other number is taken
 
@@ -48,13 +55,25 @@ a-compression-in-a-mode-is-that-modes mode chaining block counter salt =
       sym (modes.compress-left-on (modeNumber mode) chaining block counter salt false (N .0) refl mode (N .1) _ refl),
     )
 
+pub a-wide-compression-in-a-mode-is-that-modes : (mode : Mode) (chaining block : List ℕ) (counter : ℕ) (salt : List ℕ)
+    → (compressWideInRefusal (modeNumber mode) (length chaining) (length block) (length salt)
+    ≡ compressWideRefusal mode (length chaining) (length block) (length salt))
+    × (compressWideInLeaves (modeNumber mode) chaining block counter salt ≡ compressWideLeaves mode chaining block counter salt)
+a-wide-compression-in-a-mode-is-that-modes mode chaining block counter salt =
+    let N = modes.is-number mode in (
+      sym (modes.wide-passed-on (modeNumber mode) chaining block counter salt false (N .0) refl mode (N .1) _ refl),
+      sym (modes.wide-left-on (modeNumber mode) chaining block counter salt false (N .0) refl mode (N .1) _ refl),
+    )
+
 pub no-other-number-is-taken : (number h : ℕ) (salt message room chaining block : List ℕ) (counter : ℕ)
     → (number ≡ 0 → ⊥)
     → (number ≡ 1 → ⊥)
     → (digestInRefusal number h (length salt) (length message) (length room) ≡ 0 → ⊥)
     × (compressInRefusal number (length chaining) (length block) counter (length salt) ≡ 0 → ⊥)
+    × (compressWideInRefusal number (length chaining) (length block) (length salt) ≡ 0 → ⊥)
 no-other-number-is-taken number h salt message room chaining block counter z o =
     let none : true ≡ noMode number = rw (ne-eqb number 0 z, ne-eqb number 1 o) in (
       modes.digest-refuses number h salt message room true none refl,
       modes.compress-refuses number chaining block counter salt true none refl,
+      modes.wide-refuses number chaining block counter salt true none refl,
     )

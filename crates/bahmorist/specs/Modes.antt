@@ -8,7 +8,7 @@ use Rattle.echo.specs.declared.mode.Mode.{Mode}
 use Rattle.echo.specs.declared.mode.Mode.the-variants.{DoublePipe, SinglePipe}
 use Rattle.echo.specs.Families.{either, modeNumber, sizesFit}
 use Rattle.echo.specs.Refusals.{_when_, counterTooHigh, firstOf, noSalt, unless}
-use Rattle.echo.specs.Routines.{compressLeaves}
+use Rattle.echo.specs.Routines.{compressLeaves, compressWideLeaves}
 use Rattle.echo.specs.Session.{digestLeaves, digestRefusal}
 
 -- 6: the number is no mode's
@@ -45,3 +45,14 @@ unfoldable pub compressInLeaves : ℕ → List ℕ → List ℕ → ℕ → List
 compressInLeaves number chaining block counter salt =
     unless (compressInRefusal number (length chaining) (length block) counter (length salt))
     (compressLeaves (modeOf number) chaining block counter salt) chaining
+
+-- with a counter of 128 bits
+unfoldable pub compressWideInRefusal : ℕ → ℕ → ℕ → ℕ → ℕ
+compressWideInRefusal number chainingLength blockLength saltLength =
+    firstOf
+    ((2 when noSalt saltLength) ∷ (6 when noMode number || not (sizesFit (modeOf number) chainingLength blockLength)) ∷ [])
+
+unfoldable pub compressWideInLeaves : ℕ → List ℕ → List ℕ → ℕ → List ℕ → List ℕ
+compressWideInLeaves number chaining block counter salt =
+    unless (compressWideInRefusal number (length chaining) (length block) (length salt))
+    (compressWideLeaves (modeOf number) chaining block counter salt) chaining

@@ -1,18 +1,19 @@
 // The library as C and Rust see it: include/bahmorist.h declares these functions. A slice is a pointer and a length there. Each answers as
-// the routine of a layer below that it calls, and so its contract is that routine's; those that end in `_in` take a mode as a number, and
-// refuse a number that is no mode's by 6.
+// the routine of a layer below that it calls, and so its contract is that routine's; those that end in `_in`, and `bahmorist_compress_wide`, take a
+// mode as a number, and refuse a number that is no mode's by 6. Those that end in `_wide` take a counter of 128 bits by its halves.
 mod modes;
 
 ghost use mathlib.Core.Path.{_≡_};
 ghost use lib.ListN.{length};
 ghost use Rattle.echo.specs.declared.mode.Mode.the-variants.{DoublePipe};
-ghost use Rattle.echo.specs.Routines.{compressLeaves, compressRefusal, roundsBackLeave, roundsLeave, roundsRefusal};
+ghost use Rattle.echo.specs.Numbers.{halves};
+ghost use Rattle.echo.specs.Routines.{compressLeaves, compressRefusal, roundsBackLeave, roundsBackWideLeave, roundsLeave, roundsRefusal, roundsWideLeave, roundsWideRefusal};
 ghost use Rattle.echo.specs.Session.{digestLeaves, digestRefusal};
 ghost use Rattle.hmac.specs.Routines.{checkAnswer, makeLeaves, makeRefusal};
 ghost use Rattle.steering.specs.Fingerprint.{fingerprintAnswer, fingerprintLeaves};
 ghost use Rattle.steering.specs.Parsing.{parse};
 ghost use Rattle.bahmorist.specs.Answers.{numberOf};
-ghost use Rattle.bahmorist.specs.Modes.{compressInLeaves, compressInRefusal, digestInLeaves, digestInRefusal};
+ghost use Rattle.bahmorist.specs.Modes.{compressInLeaves, compressInRefusal, compressWideInLeaves, compressWideInRefusal, digestInLeaves, digestInRefusal};
 use echo::Mode;
 use modes::mode_of;
 use modes::no_mode;
@@ -68,6 +69,35 @@ pub extern "C" fn bahmorist_rounds_back(
     echo::rounds_back(square, rounds, counter, salt)
 }
 
+// Both with a counter of 128 bits, which counts on modulo 2^128; or a refusal by 2 or 6.
+#[no_mangle]
+pub extern "C" fn bahmorist_rounds_wide(
+    square: &mut [u8],
+    rounds: u64,
+    low: u64,
+    high: u64,
+    salt: &[u8],
+) -> u8
+    ensures refusal { λ r. ⌜ r ≡ roundsWideRefusal (length (now (square .entry))) rounds (length (now (salt .entry))) ⌝ }
+    ensures left { λ _. ⌜ now (square .exit) ≡ roundsWideLeave (now (square .entry)) rounds (halves low high) (now (salt .entry)) ⌝ }
+{
+    echo::rounds_wide(square, rounds, low, high, salt)
+}
+
+#[no_mangle]
+pub extern "C" fn bahmorist_rounds_back_wide(
+    square: &mut [u8],
+    rounds: u64,
+    low: u64,
+    high: u64,
+    salt: &[u8],
+) -> u8
+    ensures refusal { λ r. ⌜ r ≡ roundsWideRefusal (length (now (square .entry))) rounds (length (now (salt .entry))) ⌝ }
+    ensures left { λ _. ⌜ now (square .exit) ≡ roundsBackWideLeave (now (square .entry)) rounds (halves low high) (now (salt .entry)) ⌝ }
+{
+    echo::rounds_back_wide(square, rounds, low, high, salt)
+}
+
 // The next chaining value in the place of this one, and 0; or a refusal by 2, 6 or 7.
 #[no_mangle]
 pub extern "C" fn bahmorist_compress(
@@ -98,6 +128,25 @@ pub extern "C" fn bahmorist_compress_in(
         return if salt.len() == 16 { 6 } else { 2 };
     }
     echo::compress(mode_of(mode), chaining, block, counter, salt)
+}
+
+// The same with a counter of 128 bits, which counts on modulo 2^128; or a refusal by 2 or 6.
+#[no_mangle]
+pub extern "C" fn bahmorist_compress_wide(
+    mode: u8,
+    chaining: &mut [u8],
+    block: &[u8],
+    low: u64,
+    high: u64,
+    salt: &[u8],
+) -> u8
+    ensures refusal { λ r. ⌜ r ≡ compressWideInRefusal mode (length (now (chaining .entry))) (length (now (block .entry))) (length (now (salt .entry))) ⌝ }
+    ensures left { λ _. ⌜ now (chaining .exit) ≡ compressWideInLeaves mode (now (chaining .entry)) (now (block .entry)) (halves low high) (now (salt .entry)) ⌝ }
+{
+    if no_mode(mode) {
+        return if salt.len() == 16 { 6 } else { 2 };
+    }
+    echo::compress_wide(mode_of(mode), chaining, block, low, high, salt)
 }
 
 // The fingerprint of a table at the front of `out`, and 0; or a refusal by 2, 5, 8, 9 or 10. `place` is written on every call: the place of

@@ -8,7 +8,8 @@ use Prim.Native.Nat.{ℕ, suc}
 use lib.ListN.{length}
 use Rattle.echo.specs.declared.mode.Mode.{Mode}
 use Rattle.echo.specs.declared.session.Session.{Session}
-use Rattle.echo.specs.Routines.{compressLeaves, compressRefusal, roundsBackLeave, roundsLeave, roundsRefusal}
+use Rattle.echo.specs.Routines.{compressLeaves, compressRefusal, compressWideLeaves, compressWideRefusal}
+use Rattle.echo.specs.Routines.{roundsBackLeave, roundsBackWideLeave, roundsLeave, roundsRefusal, roundsWideLeave, roundsWideRefusal}
 use Rattle.echo.specs.Session.{addAnswer, addRefusal, admitted, blank, digestLeaves, digestRefusal, isSession, openAnswer, openRefusal}
 use Rattle.echo.specs.Session.{readLeaves, readRefusal}
 
@@ -23,10 +24,21 @@ module _ (k : ℕ) where
     unfolding roundsBackLeave
     refused-rounds-back-leave-the-square = rw e refl
 
+  module _ (square : List ℕ) (count counter : ℕ) (salt : List ℕ) (e : roundsWideRefusal (length square) count (length salt) ≡ suc k) where
+    pub refused-wide-rounds-leave-the-square :
+        (roundsWideLeave square count counter salt ≡ square) × (roundsBackWideLeave square count counter salt ≡ square)
+    unfolding roundsWideLeave roundsBackWideLeave
+    refused-wide-rounds-leave-the-square = (rw e refl, rw e refl)
+
   pub a-refused-compression-leaves-the-chaining-value : (mode : Mode) (chaining block : List ℕ) (counter : ℕ) (salt : List ℕ)
       → compressRefusal mode (length chaining) (length block) counter (length salt) ≡ suc k → compressLeaves mode chaining block counter salt ≡ chaining
   unfolding compressLeaves
   a-refused-compression-leaves-the-chaining-value mode chaining block counter salt e = rw e refl
+
+  pub a-refused-wide-compression-leaves-the-chaining-value : (mode : Mode) (chaining block : List ℕ) (counter : ℕ) (salt : List ℕ)
+      → compressWideRefusal mode (length chaining) (length block) (length salt) ≡ suc k → compressWideLeaves mode chaining block counter salt ≡ chaining
+  unfolding compressWideLeaves
+  a-refused-wide-compression-leaves-the-chaining-value mode chaining block counter salt e = rw e refl
 
   pub a-refused-opening-is-blank : (mode : Mode) (h : ℕ) (salt : List ℕ) → openRefusal h (length salt) ≡ suc k → openAnswer mode h salt .session ≡ blank
   unfolding openAnswer

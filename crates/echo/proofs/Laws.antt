@@ -1,8 +1,10 @@
 pub mod Joined
 pub mod Numbers
+pub mod Counter
 pub mod Placed
 pub mod Refusals
 pub mod Square
+pub mod UpperHalfZero
 pub mod Undone
 pub mod Words
 pub mod Rows

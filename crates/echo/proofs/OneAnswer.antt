@@ -6,7 +6,10 @@ use denote.Ref.{now}
 use Rattle.echo.proofs.run.rounds.Reads as rounds
 use Rattle.echo.proofs.run.rounds_back.Reads as rounds_back
 use Rattle.echo.proofs.run.rounds_by_bytes.Reads as rounds_by_bytes
+use Rattle.echo.proofs.run.rounds_wide.Reads as rounds_wide
+use Rattle.echo.proofs.run.rounds_back_wide.Reads as rounds_back_wide
 use Rattle.echo.proofs.compression.compress.Reads as compress
+use Rattle.echo.proofs.compression.compress_wide.Reads as compress_wide
 use Rattle.echo.proofs.session.Session.«open».Reads as opening
 use Rattle.echo.proofs.session.Session.is_session.Reads as is_session
 use Rattle.echo.proofs.session.Session.add.Reads as add
@@ -28,6 +31,18 @@ rounds-by-bytes-has-one-answer κs a r r′ s s′ p q = (p .0 ∙ sym (q .0), p
 pub compress-has-one-answer : (κs : _) (a : _) (r r′ : _) (s s′ : _) → compress.Post κs a r s → compress.Post κs a r′ s′
     → (r ≡ r′) × (now (s .1 .0) ≡ now (s′ .1 .0))
 compress-has-one-answer κs a r r′ s s′ p q = (p .0 ∙ sym (q .0), p .1 ∙ sym (q .1))
+
+pub rounds-wide-has-one-answer : (κs : _) (a : _) (r r′ : _) (s s′ : _) → rounds_wide.Post κs a r s → rounds_wide.Post κs a r′ s′
+    → (r ≡ r′) × (now (s .0) ≡ now (s′ .0))
+rounds-wide-has-one-answer κs a r r′ s s′ p q = (p .0 ∙ sym (q .0), p .1 ∙ sym (q .1))
+
+pub rounds-back-wide-has-one-answer : (κs : _) (a : _) (r r′ : _) (s s′ : _) → rounds_back_wide.Post κs a r s → rounds_back_wide.Post κs a r′ s′
+    → (r ≡ r′) × (now (s .0) ≡ now (s′ .0))
+rounds-back-wide-has-one-answer κs a r r′ s s′ p q = (p .0 ∙ sym (q .0), p .1 ∙ sym (q .1))
+
+pub compress-wide-has-one-answer : (κs : _) (a : _) (r r′ : _) (s s′ : _) → compress_wide.Post κs a r s → compress_wide.Post κs a r′ s′
+    → (r ≡ r′) × (now (s .1 .0) ≡ now (s′ .1 .0))
+compress-wide-has-one-answer κs a r r′ s s′ p q = (p .0 ∙ sym (q .0), p .1 ∙ sym (q .1))
 
 pub open-has-one-answer : (κs : _) (a : _) (r r′ : _) (s s′ : _) → opening.Post κs a r s → opening.Post κs a r′ s′ → r ≡ r′
 open-has-one-answer κs a r r′ s s′ p q = p ∙ sym q

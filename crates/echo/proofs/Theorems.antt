@@ -19,9 +19,11 @@ use Rattle.echo.specs.declared.session.Session.{Session}
 use Rattle.echo.specs.Compression.{compress, fold}
 use Rattle.echo.specs.Digest.{block, blockCount, counterAt, digestOf, iterate}
 use Rattle.echo.specs.Families.{blockSize, chainingSize, modeNumber, roundCount}
+use Rattle.echo.specs.Numbers.{halves, littleEndian}
 use Rattle.echo.specs.Padding.{pad, padding}
 use Rattle.echo.specs.Pieces.{addAll, joined}
-use Rattle.echo.specs.Routines.{compressLeaves, compressRefusal, roundsBackLeave, roundsLeave, roundsRefusal}
+use Rattle.echo.specs.Routines.{compressLeaves, compressRefusal, compressWideLeaves, compressWideRefusal}
+use Rattle.echo.specs.Routines.{roundsBackLeave, roundsBackWideLeave, roundsLeave, roundsRefusal, roundsWideLeave, roundsWideRefusal}
 use Rattle.echo.specs.Session.{
   addAnswer,
   addBytes,
@@ -43,15 +45,17 @@ use Rattle.echo.specs.Session.{
   roundsOf,
 }
 use Rattle.echo.specs.SinglePipe.{compress51, compress52}
-use Rattle.echo.specs.Square.{bigMixColumns, bigShiftRows, bigSubWords, keysFrom, rounds, roundsBack, word}
+use Rattle.echo.specs.Square.{bigMixColumns, bigShiftRows, bigSubWords, counterKey, keysFrom, rounds, roundsBack, wideKey, wideKeysFrom, word}
 use Rattle.echo.proofs.ARefusalChangesNothing as refusing
 use Rattle.echo.proofs.Laws.ByTables as by-tables
 use Rattle.echo.proofs.Laws.Continued as continued
 use Rattle.echo.proofs.Laws.Folded as folded
 use Rattle.echo.proofs.Laws.Marked as marked
 use Rattle.echo.proofs.Laws.MixedNumbers as mixed-numbers
+use Rattle.echo.proofs.Laws.Numbers as numbers-as-bytes
 use Rattle.echo.proofs.Laws.Padded as padded
 use Rattle.echo.proofs.Laws.SinglePipe as single-pipe
+use Rattle.echo.proofs.Laws.UpperHalfZero as upper-half-zero
 use Rattle.echo.proofs.Laws.Words as words
 use Rattle.echo.proofs.NothingIsLost as mixing
 use Rattle.echo.proofs.TheDigest as digest
@@ -72,6 +76,16 @@ pub a-refused-compression-leaves-the-chaining-value : (k : ℕ) (mode : Mode) (c
     → compressRefusal mode (length chaining) (length block) counter (length salt) ≡ suc k
     → compressLeaves mode chaining block counter salt ≡ chaining
 a-refused-compression-leaves-the-chaining-value = refusing.a-refused-compression-leaves-the-chaining-value
+
+pub refused-wide-rounds-leave-the-square : (k : ℕ) (square : List ℕ) (count counter : ℕ) (salt : List ℕ)
+    → roundsWideRefusal (length square) count (length salt) ≡ suc k
+    → (roundsWideLeave square count counter salt ≡ square) × (roundsBackWideLeave square count counter salt ≡ square)
+refused-wide-rounds-leave-the-square = refusing.refused-wide-rounds-leave-the-square
+
+pub a-refused-wide-compression-leaves-the-chaining-value : (k : ℕ) (mode : Mode) (chaining block : List ℕ) (counter : ℕ) (salt : List ℕ)
+    → compressWideRefusal mode (length chaining) (length block) (length salt) ≡ suc k
+    → compressWideLeaves mode chaining block counter salt ≡ chaining
+a-refused-wide-compression-leaves-the-chaining-value = refusing.a-refused-wide-compression-leaves-the-chaining-value
 
 pub a-refused-opening-is-blank : (k : ℕ) (mode : Mode) (h : ℕ) (salt : List ℕ) → openRefusal h (length salt) ≡ suc k → openAnswer mode h salt .session ≡ blank
 a-refused-opening-is-blank = refusing.a-refused-opening-is-blank
@@ -208,16 +222,15 @@ the-marked-examples-hold s =
 
 -- ---- the path by tables, on the square as 64 numbers
 
--- the word e after BIG.SubWords and BIG.ShiftRows, where κ is the counter of the word that it comes from
-pub a-word-by-tables : (start : ℕ) (salt s : List ℕ) (e : ℕ)
+-- the word e after BIG.SubWords and BIG.ShiftRows: it comes from the place 5 e (mod 16), and has the key of that place
+pub a-word-by-tables : (key : ℕ → List ℕ) (salt s : List ℕ) (e : ℕ)
+    → Bytes 16 (key (5 * e % 16))
     → Bytes 16 salt
     → Bytes 256 s
     → e < 16
-    → start + 5 * e % 16 < 2 ^ 64
-    → let κ = start + 5 * e % 16 in
+    → let i = 5 * e % 16 in
     let round = tableRound (rowTable 0) (rowTable 1) (rowTable 2) (rowTable 3) in
-    numbers 4 (word (bigShiftRows (bigSubWords (keysFrom start) salt s)) e)
-    ≡ round (round (numbers 4 (word s (5 * e % 16))) (κ % 2 ^ 32 ∷ κ / 2 ^ 32 ∷ 0 ∷ 0 ∷ [])) (numbers 4 salt)
+    numbers 4 (word (bigShiftRows (bigSubWords key salt s)) e) ≡ round (round (numbers 4 (word s i)) (numbers 4 (key i))) (numbers 4 salt)
 a-word-by-tables = by-tables.word-by-tables
 
 -- the number j of the word i in the column c of the square after BIG.MixColumns
@@ -235,7 +248,7 @@ a-mix-by-numbers = mixed-numbers.mix-by-numbers
 -- ---- nothing is lost before the fold
 
 pub squares-go-to-squares : (n start : ℕ) (salt s : List ℕ) → Bytes 16 salt → Bytes 256 s → Bytes 256 (rounds n (keysFrom start) salt s)
-squares-go-to-squares n start salt s L = mixing.squares-go-to-squares n start salt L s
+squares-go-to-squares n start salt s L = mixing.squares-go-to-squares n (keysFrom start) (mixing.keys start) salt L s
 
 pub different-squares-go-to-different-squares : (n start : ℕ) (salt s t : List ℕ)
     → Bytes 16 salt
@@ -243,25 +256,26 @@ pub different-squares-go-to-different-squares : (n start : ℕ) (salt s t : List
     → Bytes 256 t
     → rounds n (keysFrom start) salt s ≡ rounds n (keysFrom start) salt t
     → s ≡ t
-different-squares-go-to-different-squares n start salt s t L = mixing.different-squares-go-to-different-squares n start salt L s t
+different-squares-go-to-different-squares n start salt s t L =
+    mixing.different-squares-go-to-different-squares n (keysFrom start) (mixing.keys start) salt L s t
 
 pub every-square-is-reached : (n start : ℕ) (salt t : List ℕ)
     → Bytes 16 salt
     → Bytes 256 t
     → (s : List ℕ) × Bytes 256 s × (rounds n (keysFrom start) salt s ≡ t)
-every-square-is-reached n start salt t L = mixing.every-square-is-reached n start salt L t
+every-square-is-reached n start salt t L = mixing.every-square-is-reached n (keysFrom start) (mixing.keys start) salt L t
 
 pub backward-undoes-forward : (n start : ℕ) (salt s : List ℕ)
     → Bytes 16 salt
     → Bytes 256 s
     → roundsBack n (keysFrom start) salt (rounds n (keysFrom start) salt s) ≡ s
-backward-undoes-forward n start salt s L = mixing.backward-undoes-forward n start salt L s
+backward-undoes-forward n start salt s L = mixing.backward-undoes-forward n (keysFrom start) (mixing.keys start) salt L s
 
 pub forward-undoes-backward : (n start : ℕ) (salt s : List ℕ)
     → Bytes 16 salt
     → Bytes 256 s
     → rounds n (keysFrom start) salt (roundsBack n (keysFrom start) salt s) ≡ s
-forward-undoes-backward n start salt s L = mixing.forward-undoes-backward n start salt L s
+forward-undoes-backward n start salt s L = mixing.forward-undoes-backward n (keysFrom start) (mixing.keys start) salt L s
 
 -- the two routines as they are called, refused or not
 pub the-routines-undo-each-other : (square : List ℕ) (count counter : ℕ) (salt : List ℕ)
@@ -283,7 +297,7 @@ pub new-chaining-value : (c parts n start : ℕ) (salt v m : List ℕ)
     → length v ≡ c
     → length m ≡ c * parts
     → compress c n (keysFrom start) salt v m ≡ xorBytes c (fold c (v ++ m)) (fold c (rounds n (keysFrom start) salt (v ++ m)))
-new-chaining-value = mixing.new-chaining-value
+new-chaining-value c parts n start = mixing.new-chaining-value c parts n (keysFrom start)
 
 -- the same of what the routine leaves, in either mode
 pub compress-leaves-the-folds : (mode : Mode) (chaining block : List ℕ) (counter : ℕ) (salt : List ℕ)
@@ -291,9 +305,73 @@ pub compress-leaves-the-folds : (mode : Mode) (chaining block : List ℕ) (count
     → compressLeaves mode chaining block counter salt
     ≡ xorBytes (length chaining) (fold (length chaining) (chaining ++ block))
     (fold (length chaining) (rounds (roundCount mode (length chaining)) (keysFrom counter) salt (chaining ++ block)))
-compress-leaves-the-folds = mixing.compress-leaves-the-folds
+compress-leaves-the-folds mode chaining block counter salt = mixing.compress-leaves-the-folds mode chaining block salt counter
 
--- the fold in words
+-- ---- counters of 128 bits
+
+-- the sixteen bytes of the subkey are those of the lower half and those of the upper
+pub a-wide-subkey-is-both-halves : (low high : ℕ) → low < 2 ^ 64 → wideKey (halves low high) ≡ littleEndian 8 low ++ littleEndian 8 high
+a-wide-subkey-is-both-halves = numbers-as-bytes.wide-key-halves
+
+-- past the lower half the upper one rises, and past both they are zero
+pub counting-past-a-half : Hold
+    ((wideKeysFrom (2 ^ 64 - 1) 0 gives (replicate 8 255 ++ replicate 8 0))
+    ∷ (wideKeysFrom (2 ^ 64 - 1) 1 gives (replicate 8 0 ++ (1 ∷ replicate 7 0)))
+    ∷ (wideKeysFrom (2 ^ 128 - 1) 0 gives replicate 16 255)
+    ∷ (wideKeysFrom (2 ^ 128 - 1) 1 gives replicate 16 0)
+    ∷ [])
+counting-past-a-half = marked.past-a-half
+
+pub below-2-to-the-64-the-subkeys-are-one : (κ : ℕ) → κ < 2 ^ 64 → wideKey κ ≡ counterKey κ
+below-2-to-the-64-the-subkeys-are-one = upper-half-zero.keys-agree
+
+-- with the upper half zero the routines of both counters answer and leave the same, wherever those of 64 bits refuse nothing
+pub rounds-agree-with-the-upper-half-zero : (square : List ℕ) (count counter : ℕ) (salt : List ℕ)
+    → roundsRefusal (length square) count counter (length salt) ≡ 0
+    → (roundsWideRefusal (length square) count (length salt) ≡ 0)
+    × (roundsWideLeave square count (halves counter 0) salt ≡ roundsLeave square count counter salt)
+    × (roundsBackWideLeave square count (halves counter 0) salt ≡ roundsBackLeave square count counter salt)
+rounds-agree-with-the-upper-half-zero = upper-half-zero.rounds-agree-with-the-upper-half-zero
+
+pub compression-agrees-with-the-upper-half-zero : (mode : Mode) (chaining block : List ℕ) (counter : ℕ) (salt : List ℕ)
+    → compressRefusal mode (length chaining) (length block) counter (length salt) ≡ 0
+    → (compressWideRefusal mode (length chaining) (length block) (length salt) ≡ 0)
+    × (compressWideLeaves mode chaining block (halves counter 0) salt ≡ compressLeaves mode chaining block counter salt)
+compression-agrees-with-the-upper-half-zero = upper-half-zero.compression-agrees-with-the-upper-half-zero
+
+-- every starting counter, the wrap within a run included: different squares go to different squares, every square is reached, and backward and
+-- forward undo each other
+pub nothing-is-lost-from-any-wide-counter : (n start : ℕ) (salt : List ℕ)
+    → Bytes 16 salt
+    → ((s t : List ℕ) → Bytes 256 s → Bytes 256 t → rounds n (wideKeysFrom start) salt s ≡ rounds n (wideKeysFrom start) salt t → s ≡ t)
+    × ((t : List ℕ) → Bytes 256 t → (s : List ℕ) × Bytes 256 s × (rounds n (wideKeysFrom start) salt s ≡ t))
+    × ((s : List ℕ) → Bytes 256 s → roundsBack n (wideKeysFrom start) salt (rounds n (wideKeysFrom start) salt s) ≡ s)
+    × ((s : List ℕ) → Bytes 256 s → rounds n (wideKeysFrom start) salt (roundsBack n (wideKeysFrom start) salt s) ≡ s)
+nothing-is-lost-from-any-wide-counter n start salt L =
+    let key = wideKeysFrom start in
+    let K = mixing.wide-keys start in (
+      mixing.different-squares-go-to-different-squares n key K salt L,
+      mixing.every-square-is-reached n key K salt L,
+      mixing.backward-undoes-forward n key K salt L,
+      mixing.forward-undoes-backward n key K salt L,
+    )
+
+pub the-wide-routines-undo-each-other : (square : List ℕ) (count counter : ℕ) (salt : List ℕ)
+    → Bytes (length square) square
+    → Bytes (length salt) salt
+    → (roundsBackWideLeave (roundsWideLeave square count counter salt) count counter salt ≡ square)
+    × (roundsWideLeave (roundsBackWideLeave square count counter salt) count counter salt ≡ square)
+the-wide-routines-undo-each-other = mixing.the-wide-routines-undo-each-other
+
+pub compress-wide-leaves-the-folds : (mode : Mode) (chaining block : List ℕ) (counter : ℕ) (salt : List ℕ)
+    → compressWideRefusal mode (length chaining) (length block) (length salt) ≡ 0
+    → compressWideLeaves mode chaining block counter salt
+    ≡ xorBytes (length chaining) (fold (length chaining) (chaining ++ block))
+    (fold (length chaining) (rounds (roundCount mode (length chaining)) (wideKeysFrom counter) salt (chaining ++ block)))
+compress-wide-leaves-the-folds mode chaining block counter salt = mixing.compress-wide-leaves-the-folds mode chaining block salt counter
+
+-- ---- the fold in words
+
 pub the-short-fold : (s : List ℕ) (i : ℕ)
     → length s ≡ 256
     → i < 4

@@ -1,7 +1,7 @@
 -- Sections 1 and 3: the square S, sixteen words of 16 bytes in a 4 by 4 array column by column, and the rounds. Assumes nothing.
 -- The square is the array of FIPS 197 with entries of 16 bytes.
 use mathlib.Core.List.{List, [], _∷_, _++_}
-use Prim.Native.Nat.{ℕ, zero, suc, _+_, _*_, _/_, _%_}
+use Prim.Native.Nat.{ℕ, zero, suc, _+_, _*_, _/_, _%_, _^_}
 use lib.ListN.{getD, replicate}
 use Rattle.aes_round.specs.Array.{array, entry}
 use Rattle.aes_round.specs.Bytes.{tab}
@@ -42,6 +42,14 @@ rounds (suc n) key salt s = bigRound (λ i. key (16 * n + i)) salt (rounds n key
 -- 3.1: the subkeys of a run whose internal counter is initialised with C
 abbrev pub keysFrom : ℕ → ℕ → List ℕ
 keysFrom C number = counterKey (C + number)
+
+-- 3.1: the subkey k_1 of the 128-bit internal counter κ: κ itself
+unfoldable pub wideKey : ℕ → List ℕ
+wideKey κ = littleEndian 16 κ
+
+-- 3.1: the subkeys of a run whose 128-bit internal counter is initialised with C, and incremented modulo 2^128
+abbrev pub wideKeysFrom : ℕ → ℕ → List ℕ
+wideKeysFrom C number = wideKey ((C + number) % 2 ^ 128)
 
 -- the way back: each step undone, the last round first
 unfoldable pub bigSubWordsBack : (ℕ → List ℕ) → List ℕ → List ℕ → List ℕ

@@ -6,13 +6,16 @@ ghost use Rattle.aes_round.specs.Bytes.{xorBytes};
 ghost use Rattle.echo.specs.Compression.{fold};
 ghost use Rattle.echo.specs.Compression.{compress as Compression·compress};
 ghost use Rattle.echo.specs.Families.{roundCount};
-ghost use Rattle.echo.specs.Routines.{compressLeaves, compressRefusal};
-ghost use Rattle.echo.specs.Square.{keysFrom};
+ghost use Rattle.echo.specs.Numbers.{halves};
+ghost use Rattle.echo.specs.Routines.{compressLeaves, compressRefusal, compressWideLeaves, compressWideRefusal};
+ghost use Rattle.echo.specs.Square.{keysFrom, wideKeysFrom};
+use super::counter::Counter;
 use super::families::chaining_size;
 use super::lent::copy_in;
 use super::lent::sixteen;
 use super::mode::Mode;
 use super::refusals::compress_refusal;
+use super::refusals::compress_wide_refusal;
 use super::run::run;
 
 // Xors src into v.
@@ -41,6 +44,24 @@ fn fold_in(v: &mut [u8], src: &[u8], parts: usize)
 }
 
 // A chaining variable and a block that fill a square together, through `count` rounds.
+fn compress_wide_in(chaining: &mut [u8], block: &[u8], count: u64, counter: Counter, salt: [u8; 16])
+    requires { ⌜ 0 < length (now chaining) ⌝ }
+    requires { ⌜ length (now chaining) + length (now block) ≡ 256 ⌝ }
+    requires { ⌜ 256 ≡ length (now chaining) * (256 / length (now chaining)) ⌝ }
+    requires { ⌜ 16 * count ≤ 2 ^ 64 ⌝ }
+    ensures { λ _. ⌜ now (chaining .exit) ≡ Compression·compress (length (now (chaining .entry))) count (wideKeysFrom (halves (counter .low) (counter .high))) salt (now (chaining .entry)) (now (block .entry)) ⌝ }
+{
+    let c = chaining.len();
+    let parts = 256 / c;
+    let mut square = [0u8; 256];
+    copy_in(&mut square, 0, chaining);
+    copy_in(&mut square, c, block);
+    run(&mut square, count, counter, salt);
+    fold_in(chaining, block, parts - 1);
+    fold_in(chaining, &square, parts);
+}
+
+// The same with a counter of 64 bits that does not outgrow them.
 pub(crate) fn compress_in(
     chaining: &mut [u8],
     block: &[u8],
@@ -54,14 +75,11 @@ pub(crate) fn compress_in(
     requires { ⌜ counter + 16 * count ≤ 2 ^ 64 ⌝ }
     ensures { λ _. ⌜ now (chaining .exit) ≡ Compression·compress (length (now (chaining .entry))) count (keysFrom counter) salt (now (chaining .entry)) (now (block .entry)) ⌝ }
 {
-    let c = chaining.len();
-    let parts = 256 / c;
-    let mut square = [0u8; 256];
-    copy_in(&mut square, 0, chaining);
-    copy_in(&mut square, c, block);
-    run(&mut square, count, counter, salt);
-    fold_in(chaining, block, parts - 1);
-    fold_in(chaining, &square, parts);
+    let start = Counter {
+        low: counter,
+        high: 0,
+    };
+    compress_wide_in(chaining, block, count, start, salt);
 }
 
 // The rounds of a mode for a chaining variable of that size.
@@ -75,23 +93,42 @@ pub(crate) fn round_count(mode: Mode, chaining: usize) -> u64
     }
 }
 
-// Rewrites the chaining variable by one block, and answers 0; or refuses by 2, 6 or 7 and leaves it. Sizes are 64 and 192 bytes or 128
-// and 128 in double-pipe, 32 and 224 or 64 and 192 in single-pipe.
+// Rewrites the chaining variable by one block, whose counter has these halves and counts on modulo 2^128, and answers 0; or refuses by 2 or 6 and
+// leaves it. Sizes are 64 and 192 bytes or 128 and 128 in double-pipe, 32 and 224 or 64 and 192 in single-pipe.
+pub fn compress_wide(
+    mode: Mode,
+    chaining: &mut [u8],
+    block: &[u8],
+    low: u64,
+    high: u64,
+    salt: &[u8],
+) -> u8
+    ensures refusal { λ r. ⌜ r ≡ compressWideRefusal mode (length (now (chaining .entry))) (length (now (block .entry))) (length (now (salt .entry))) ⌝ }
+    ensures left { λ _. ⌜ now (chaining .exit) ≡ compressWideLeaves mode (now (chaining .entry)) (now (block .entry)) (halves low high) (now (salt .entry)) ⌝ }
+{
+    let c = chaining.len();
+    let refusal = compress_wide_refusal(mode, c, block.len(), salt.len());
+    if refusal != 0 {
+        return refusal;
+    }
+    compress_wide_in(
+        chaining,
+        block,
+        round_count(mode, c),
+        Counter { low, high },
+        sixteen(salt, 0),
+    );
+    0
+}
+
+// The same with a counter of 64 bits: `compress_wide` with the upper half zero, behind a bound on the counter, above which it refuses by 7.
 pub fn compress(mode: Mode, chaining: &mut [u8], block: &[u8], counter: u64, salt: &[u8]) -> u8
     ensures refusal { λ r. ⌜ r ≡ compressRefusal mode (length (now (chaining .entry))) (length (now (block .entry))) counter (length (now (salt .entry))) ⌝ }
     ensures left { λ _. ⌜ now (chaining .exit) ≡ compressLeaves mode (now (chaining .entry)) (now (block .entry)) counter (now (salt .entry)) ⌝ }
 {
-    let c = chaining.len();
-    let refusal = compress_refusal(mode, c, block.len(), counter, salt.len());
+    let refusal = compress_refusal(mode, chaining.len(), block.len(), counter, salt.len());
     if refusal != 0 {
         return refusal;
     }
-    compress_in(
-        chaining,
-        block,
-        round_count(mode, c),
-        counter,
-        sixteen(salt, 0),
-    );
-    0
+    compress_wide(mode, chaining, block, counter, 0, salt)
 }

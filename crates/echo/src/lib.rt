@@ -1,5 +1,6 @@
 // ECHO 2.0: the rounds of its square, forward and backward, compression, sessions and digests.
 mod compression;
+mod counter;
 mod digest_at_once;
 mod families;
 mod initial;
@@ -18,11 +19,14 @@ mod sub_words;
 mod waiting;
 
 pub use compression::compress;
+pub use compression::compress_wide;
 pub use digest_at_once::digest;
 pub use mode::Mode;
 pub use refusals::digest_refusal;
 pub use run::rounds;
 pub use run::rounds_back;
+pub use run::rounds_back_wide;
 pub use run::rounds_by_bytes;
+pub use run::rounds_wide;
 pub use session::Answer;
 pub use session::Session;

@@ -3,7 +3,7 @@ ghost use mathlib.Core.Bool.{_||_};
 ghost use mathlib.Core.Path.{_≡_};
 ghost use lib.Dec.{eqb};
 ghost use Rattle.echo.specs.Families.{sizesFit};
-ghost use Rattle.echo.specs.Routines.{compressRefusal, roundsRefusal};
+ghost use Rattle.echo.specs.Routines.{compressRefusal, compressWideRefusal, roundsRefusal, roundsWideRefusal};
 ghost use Rattle.echo.specs.Session.{digestRefusal};
 use super::families::admitted;
 use super::families::block_size;
@@ -37,9 +37,9 @@ fn sizes_fit(mode: Mode, chaining: usize, block: usize) -> bool
     false
 }
 
-// What a run of rounds is refused for, 0 for nothing.
-pub(crate) fn rounds_refusal(square: usize, count: u64, counter: u64, salt: usize) -> u8
-    ensures { λ r. ⌜ r ≡ roundsRefusal square count counter salt ⌝ }
+// What a run of rounds is refused for whatever its counter, 0 for nothing.
+pub(crate) fn rounds_wide_refusal(square: usize, count: u64, salt: usize) -> u8
+    ensures { λ r. ⌜ r ≡ roundsWideRefusal square count salt ⌝ }
 {
     if salt != 16 {
         return 2;
@@ -50,13 +50,37 @@ pub(crate) fn rounds_refusal(square: usize, count: u64, counter: u64, salt: usiz
     if !is_round_count(count) {
         return 6;
     }
+    0
+}
+
+// The same with a counter of 64 bits.
+pub(crate) fn rounds_refusal(square: usize, count: u64, counter: u64, salt: usize) -> u8
+    ensures { λ r. ⌜ r ≡ roundsRefusal square count counter salt ⌝ }
+{
+    let refusal = rounds_wide_refusal(square, count, salt);
+    if refusal != 0 {
+        return refusal;
+    }
     if LAST_COUNTER < counter {
         return 7;
     }
     0
 }
 
-// What a compression is refused for, 0 for nothing.
+// What a compression is refused for whatever its counter, 0 for nothing.
+pub(crate) fn compress_wide_refusal(mode: Mode, chaining: usize, block: usize, salt: usize) -> u8
+    ensures { λ r. ⌜ r ≡ compressWideRefusal mode chaining block salt ⌝ }
+{
+    if salt != 16 {
+        return 2;
+    }
+    if !sizes_fit(mode, chaining, block) {
+        return 6;
+    }
+    0
+}
+
+// The same with a counter of 64 bits.
 pub(crate) fn compress_refusal(
     mode: Mode,
     chaining: usize,
@@ -66,11 +90,9 @@ pub(crate) fn compress_refusal(
 ) -> u8
     ensures { λ r. ⌜ r ≡ compressRefusal mode chaining block counter salt ⌝ }
 {
-    if salt != 16 {
-        return 2;
-    }
-    if !sizes_fit(mode, chaining, block) {
-        return 6;
+    let refusal = compress_wide_refusal(mode, chaining, block, salt);
+    if refusal != 0 {
+        return refusal;
     }
     if LAST_COUNTER < counter {
         return 7;

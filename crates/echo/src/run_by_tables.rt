@@ -5,54 +5,62 @@ ghost use lib.ListN.{length};
 ghost use Rattle.aes_round.specs.ByTables.{rowTable};
 ghost use Rattle.aes_round.specs.Numbers.{bytesOf, numbers};
 ghost use Rattle.aes_round.specs.Rounds.{aesRound};
-ghost use Rattle.echo.specs.Square.{bigMixColumns, bigShiftRows, bigSubWords, counterKey, keysFrom};
+ghost use Rattle.echo.specs.Numbers.{halves};
+ghost use Rattle.echo.specs.Square.{bigMixColumns, bigShiftRows, bigSubWords, wideKeysFrom};
 ghost use Rattle.echo.specs.Square.{rounds as Square·rounds};
+use super::counter::Counter;
+use super::counter::count_on;
 use super::numbers::numbers_of_square;
 use super::numbers::numbers_of_word;
 use super::numbers::put_numbers;
 
-// A word through two AES rounds: the first key is the counter, two numbers and zeros, and the second one the salt.
+// The word of that number through two AES rounds: the first key is its counter, and the second one the salt.
 fn word_by_tables(
     t: &[u32; 256],
     u: &[u32; 256],
     v: &[u32; 256],
     w: &[u32; 256],
     word: [u32; 4],
-    counter: u64,
+    counter: Counter,
+    number: u64,
     salt: [u32; 4],
 ) -> [u32; 4]
     requires { ⌜ now t ≡ rowTable 0 ⌝ }
     requires { ⌜ now u ≡ rowTable 1 ⌝ }
     requires { ⌜ now v ≡ rowTable 2 ⌝ }
     requires { ⌜ now w ≡ rowTable 3 ⌝ }
-    ensures { λ r. ⌜ r ≡ numbers 4 (aesRound (aesRound (bytesOf 4 word) (counterKey counter)) (bytesOf 4 salt)) ⌝ }
+    ensures { λ r. ⌜ r ≡ numbers 4 (aesRound (aesRound (bytesOf 4 word) (wideKeysFrom (halves (counter .low) (counter .high)) number)) (bytesOf 4 salt)) ⌝ }
 {
+    let at = count_on(counter, number);
+    let low = at.low;
+    let high = at.high;
     let key = [
-        (counter % 0x1_0000_0000) as u32,
-        (counter / 0x1_0000_0000) as u32,
-        0,
-        0,
+        (low % 0x1_0000_0000) as u32,
+        (low / 0x1_0000_0000) as u32,
+        (high % 0x1_0000_0000) as u32,
+        (high / 0x1_0000_0000) as u32,
     ];
     let once = aes_round::round_by_tables(t, u, v, w, word, key);
     aes_round::round_by_tables(t, u, v, w, once, salt)
 }
 
-// BIG.SubWords and BIG.ShiftRows (sections 3.1 and 3.2) at once: the word e comes from the place 5 e (mod 16), and has the counter of that place.
+// BIG.SubWords and BIG.ShiftRows (sections 3.1 and 3.2) at once: the word e comes from the place 5 e (mod 16), and has the number of that place.
 fn sub_and_shift(
     t: &[u32; 256],
     u: &[u32; 256],
     v: &[u32; 256],
     w: &[u32; 256],
     s: [u32; 64],
-    counter: u64,
+    counter: Counter,
+    first: u64,
     salt: [u32; 4],
 ) -> [u32; 64]
     requires { ⌜ now t ≡ rowTable 0 ⌝ }
     requires { ⌜ now u ≡ rowTable 1 ⌝ }
     requires { ⌜ now v ≡ rowTable 2 ⌝ }
     requires { ⌜ now w ≡ rowTable 3 ⌝ }
-    requires { ⌜ counter + 15 < 2 ^ 64 ⌝ }
-    ensures { λ r. ⌜ r ≡ numbers 64 (bigShiftRows (bigSubWords (keysFrom counter) (bytesOf 4 salt) (bytesOf 64 s))) ⌝ }
+    requires { ⌜ first + 15 < 2 ^ 64 ⌝ }
+    ensures { λ r. ⌜ r ≡ numbers 64 (bigShiftRows (bigSubWords (λ i. wideKeysFrom (halves (counter .low) (counter .high)) (first + i)) (bytesOf 4 salt) (bytesOf 64 s))) ⌝ }
 {
     let mut r = [0u32; 64];
     for e in 0..16 {
@@ -61,7 +69,7 @@ fn sub_and_shift(
         let b = s[4 * i + 1];
         let c = s[4 * i + 2];
         let d = s[4 * i + 3];
-        let through = word_by_tables(t, u, v, w, [a, b, c, d], counter + i as u64, salt);
+        let through = word_by_tables(t, u, v, w, [a, b, c, d], counter, first + i as u64, salt);
         r[4 * e] = through[0];
         r[4 * e + 1] = through[1];
         r[4 * e + 2] = through[2];
@@ -93,10 +101,10 @@ fn mix_square(s: [u32; 64]) -> [u32; 64]
     r
 }
 
-pub(crate) fn run_by_tables(s: &mut [u8], count: u64, counter: u64, salt: [u8; 16])
+pub(crate) fn run_by_tables(s: &mut [u8], count: u64, counter: Counter, salt: [u8; 16])
     requires { ⌜ length (now s) ≡ 256 ⌝ }
-    requires { ⌜ counter + 16 * count ≤ 2 ^ 64 ⌝ }
-    ensures { λ _. ⌜ now (s .exit) ≡ Square·rounds count (keysFrom counter) salt (now (s .entry)) ⌝ }
+    requires { ⌜ 16 * count ≤ 2 ^ 64 ⌝ }
+    ensures { λ _. ⌜ now (s .exit) ≡ Square·rounds count (wideKeysFrom (halves (counter .low) (counter .high))) salt (now (s .entry)) ⌝ }
 {
     let tables = aes_round::row_tables();
     let t = tables.row_0;
@@ -106,7 +114,7 @@ pub(crate) fn run_by_tables(s: &mut [u8], count: u64, counter: u64, salt: [u8; 1
     let key = numbers_of_word(salt);
     let mut square = numbers_of_square(s);
     for r in 0..count {
-        let shifted = sub_and_shift(&t, &u, &v, &w, square, counter + 16 * r, key);
+        let shifted = sub_and_shift(&t, &u, &v, &w, square, counter, 16 * r, key);
         square = mix_square(shifted);
     }
     put_numbers(s, square);

@@ -10,12 +10,14 @@ use lib.ListN.{length}
 use Rattle.echo.specs.declared.mode.Mode.{Mode}
 use Rattle.echo.specs.declared.mode.Mode.the-variants.{DoublePipe, SinglePipe}
 use Rattle.echo.specs.Families.{modeNumber, sizesFit}
-use Rattle.echo.specs.Refusals.{_when_, counterTooHigh, firstOf, noSalt, unless}
-use Rattle.echo.specs.Routines.{compressLeaves, compressRefusal}
+use Rattle.echo.specs.Refusals.{Refusal, _when_, counterTooHigh, firstOf, noSalt, unless}
+use Rattle.echo.specs.Routines.{compressLeaves, compressRefusal, compressWideLeaves, compressWideRefusal}
 use Rattle.echo.specs.Session.{digestLeaves, digestRefusal}
-use Rattle.echo.proofs.Laws.Refusals.{compress-number}
+use Rattle.echo.proofs.Laws.Refusals.{compress-number, compress-wide-number}
 use Rattle.echo.proofs.Theorems.{a-refused-compression-leaves-the-chaining-value, a-refused-digest-leaves-the-room}
-use Rattle.bahmorist.specs.Modes.{compressInLeaves, compressInRefusal, digestInLeaves, digestInRefusal, modeOf, noMode}
+use Rattle.echo.proofs.Theorems.{a-refused-wide-compression-leaves-the-chaining-value}
+use Rattle.bahmorist.specs.Modes.{compressInLeaves, compressInRefusal, compressWideInLeaves, compressWideInRefusal}
+use Rattle.bahmorist.specs.Modes.{digestInLeaves, digestInRefusal, modeOf, noMode}
 
 -- ---- numbers and modes
 
@@ -101,63 +103,128 @@ module _ (n h : ℕ) (salt message room : List ℕ) where
           ∙ passed-on number _ room (λ k p. a-refused-digest-leaves-the-room k (modeOf n) h salt message room p)
           ∙ ap (λ (k : ℕ). unless k (digestLeaves (modeOf n) h salt message room) room) (sym same-number)
 
--- ---- compression
+-- ---- compression, with what is refused behind 2 and 6
 
-module _ (n : ℕ) (chaining block : List ℕ) (counter : ℕ) (salt : List ℕ) where
-  abbrev refusal : ℕ
-  refusal = compressRefusal (modeOf n) (length chaining) (length block) counter (length salt)
+module _ (n : ℕ) (chaining block salt : List ℕ) (rest : List Refusal) where
+  -- where it is known whether the number is no mode's
+  abbrev first : Bool → ℕ
+  first t = firstOf ((2 when noSalt (length salt)) ∷ (6 when t || not (sizesFit (modeOf n) (length chaining) (length block))) ∷ rest)
+
+  module _ (t : Bool) (e : t ≡ noMode n) where
+    same : (x : Bool) → t ≡ x → first (noMode n) ≡ first x
+    same x p = ap first (sym e ∙ p)
+
+    refuses : t ≡ true → first (noMode n) ≡ 0 → ⊥
+    refuses none z = by (eqb (length salt) 16) (sym (same true none) ∙ z)
+      where
+        by : (s : Bool) → firstOf ((2 when not s) ∷ (6 when true) ∷ rest) ≡ 0 → ⊥
+        by true p = omega arith
+        by false p = omega arith
+
+    number-2 : (length salt ≡ 16 → ⊥) → 2 ≡ first (noMode n)
+    number-2 l = rw (ne-eqb (length salt) 16 l)
+
+    number-6 : t ≡ true → length salt ≡ 16 → 6 ≡ first (noMode n)
+    number-6 none l = rw (eq-eqb (length salt) 16 l, ← e, none)
+
+    keeps : t ≡ true → (done : List ℕ) → chaining ≡ unless (first (noMode n)) done chaining
+    keeps none done = by (eqb (length salt) 16) ∙ ap (λ (k : ℕ). unless k done chaining) (sym (same true none))
+      where
+        by : (s : Bool) → chaining ≡ unless (firstOf ((2 when not s) ∷ (6 when true) ∷ rest)) done chaining
+        by true = refl
+        by false = refl
+
+    -- a routine of that mode refuses by `refusal` and leaves `leaves`
+    module _ (one : t ≡ false) (refusal : Mode → ℕ) (is : refusal (modeOf n) ≡ first false) (mode : Mode) (m : mode ≡ modeOf n) where
+      numbers-on : refusal mode ≡ first (noMode n)
+      numbers-on = ap refusal m ∙ is ∙ sym (same false one)
+
+      leaves-on : (leaves : Mode → List ℕ) → ((k : ℕ) → refusal (modeOf n) ≡ suc k → leaves (modeOf n) ≡ chaining)
+          → leaves mode ≡ unless (first (noMode n)) (leaves (modeOf n)) chaining
+      leaves-on leaves f =
+          ap leaves m
+          ∙ passed-on (refusal (modeOf n)) (leaves (modeOf n)) chaining f
+          ∙ ap (λ (k : ℕ). unless k (leaves (modeOf n)) chaining) (is ∙ sym (same false one))
+
+-- a counter of 64 bits
+module _ (n : ℕ) (chaining block : List ℕ) (counter : ℕ) (salt : List ℕ) (t : Bool) (e : t ≡ noMode n) where
+  abbrev high : List Refusal
+  high = (7 when counterTooHigh counter) ∷ []
 
   abbrev refusal-in : ℕ
   refusal-in = compressInRefusal n (length chaining) (length block) counter (length salt)
 
-  module _ (t : Bool) (e : t ≡ noMode n) where
-    pub compress-refuses : t ≡ true → refusal-in ≡ 0 → ⊥
+  pub compress-refuses : t ≡ true → refusal-in ≡ 0 → ⊥
+  unfolding compressInRefusal
+  compress-refuses = refuses n chaining block salt high t e
+
+  module _ (none : t ≡ true) where
+    pub compress-no-mode-2 : (length salt ≡ 16 → ⊥) → 2 ≡ refusal-in
     unfolding compressInRefusal
-    compress-refuses none z = by (eqb (length salt) 16) (rw (← e, none) at z)
-      where
-        by : (s : Bool) → firstOf ((2 when not s) ∷ (6 when true) ∷ (7 when counterTooHigh counter) ∷ []) ≡ 0 → ⊥
-        by true p = omega arith
-        by false p = omega arith
+    compress-no-mode-2 = number-2 n chaining block salt high t e
 
-    module _ (none : t ≡ true) where
-      pub compress-no-mode-2 : (length salt ≡ 16 → ⊥) → 2 ≡ refusal-in
-      unfolding compressInRefusal
-      compress-no-mode-2 l = rw (ne-eqb (length salt) 16 l)
+    pub compress-no-mode-6 : length salt ≡ 16 → 6 ≡ refusal-in
+    unfolding compressInRefusal
+    compress-no-mode-6 = number-6 n chaining block salt high t e none
 
-      pub compress-no-mode-6 : length salt ≡ 16 → 6 ≡ refusal-in
-      unfolding compressInRefusal
-      compress-no-mode-6 l = rw (eq-eqb (length salt) 16 l, ← e, none)
+    pub no-mode-keeps : chaining ≡ compressInLeaves n chaining block counter salt
+    unfolding compressInLeaves compressInRefusal
+    no-mode-keeps = keeps n chaining block salt high t e none _
 
-      pub no-mode-keeps : chaining ≡ compressInLeaves n chaining block counter salt
-      unfolding compressInLeaves compressInRefusal
-      no-mode-keeps = rw (← e, none) (by (eqb (length salt) 16))
-        where
-          by : (s : Bool)
-              → chaining
-              ≡ unless (firstOf ((2 when not s) ∷ (6 when true) ∷ (7 when counterTooHigh counter) ∷ []))
-              (compressLeaves (modeOf n) chaining block counter salt) chaining
-          by true = refl
-          by false = refl
+  module _ (one : t ≡ false) (mode : Mode) (m : mode ≡ modeOf n) where
+    abbrev refusal : Mode → ℕ
+    refusal x = compressRefusal x (length chaining) (length block) counter (length salt)
 
-    module _ (one : t ≡ false) where
-      same-refusal : refusal-in ≡ refusal
-      unfolding compressInRefusal
-      same-refusal =
-          ap
-          (λ (x : Bool). firstOf
-          ((2 when noSalt (length salt)) ∷ (6 when x || not (sizesFit (modeOf n) (length chaining) (length block))) ∷ (7 when counterTooHigh counter) ∷ []))
-          (sym e ∙ one)
-          ∙ sym (compress-number (modeOf n) (length chaining) (length block) counter (length salt))
+    is : refusal (modeOf n) ≡ first n chaining block salt high false
+    is = compress-number (modeOf n) (length chaining) (length block) counter (length salt)
 
-      module _ (mode : Mode) (m : mode ≡ modeOf n) where
-        pub compress-passed-on : (r : ℕ) → r ≡ compressRefusal mode (length chaining) (length block) counter (length salt) → r ≡ refusal-in
-        compress-passed-on r d =
-            d ∙ ap (λ (x : Mode). compressRefusal x (length chaining) (length block) counter (length salt)) m ∙ sym same-refusal
+    pub compress-passed-on : (r : ℕ) → r ≡ refusal mode → r ≡ refusal-in
+    unfolding compressInRefusal
+    compress-passed-on r d = d ∙ numbers-on n chaining block salt high t e one refusal is mode m
 
-        pub compress-left-on : (u : List ℕ) → u ≡ compressLeaves mode chaining block counter salt → u ≡ compressInLeaves n chaining block counter salt
-        unfolding compressInLeaves
-        compress-left-on u l =
-            l
-            ∙ ap (λ (x : Mode). compressLeaves x chaining block counter salt) m
-            ∙ passed-on refusal _ chaining (λ k p. a-refused-compression-leaves-the-chaining-value k (modeOf n) chaining block counter salt p)
-            ∙ ap (λ (k : ℕ). unless k (compressLeaves (modeOf n) chaining block counter salt) chaining) (sym same-refusal)
+    pub compress-left-on : (u : List ℕ) → u ≡ compressLeaves mode chaining block counter salt → u ≡ compressInLeaves n chaining block counter salt
+    unfolding compressInLeaves compressInRefusal
+    compress-left-on u l =
+        l
+        ∙ leaves-on n chaining block salt high t e one refusal is mode m (λ x. compressLeaves x chaining block counter salt)
+        (λ k. a-refused-compression-leaves-the-chaining-value k (modeOf n) chaining block counter salt)
+
+-- a counter of 128 bits
+module _ (n : ℕ) (chaining block : List ℕ) (counter : ℕ) (salt : List ℕ) (t : Bool) (e : t ≡ noMode n) where
+  abbrev wide-refusal-in : ℕ
+  wide-refusal-in = compressWideInRefusal n (length chaining) (length block) (length salt)
+
+  pub wide-refuses : t ≡ true → wide-refusal-in ≡ 0 → ⊥
+  unfolding compressWideInRefusal
+  wide-refuses = refuses n chaining block salt [] t e
+
+  module _ (none : t ≡ true) where
+    pub wide-no-mode-2 : (length salt ≡ 16 → ⊥) → 2 ≡ wide-refusal-in
+    unfolding compressWideInRefusal
+    wide-no-mode-2 = number-2 n chaining block salt [] t e
+
+    pub wide-no-mode-6 : length salt ≡ 16 → 6 ≡ wide-refusal-in
+    unfolding compressWideInRefusal
+    wide-no-mode-6 = number-6 n chaining block salt [] t e none
+
+    pub wide-no-mode-keeps : chaining ≡ compressWideInLeaves n chaining block counter salt
+    unfolding compressWideInLeaves compressWideInRefusal
+    wide-no-mode-keeps = keeps n chaining block salt [] t e none _
+
+  module _ (one : t ≡ false) (mode : Mode) (m : mode ≡ modeOf n) where
+    abbrev wide-refusal : Mode → ℕ
+    wide-refusal x = compressWideRefusal x (length chaining) (length block) (length salt)
+
+    wide-is : wide-refusal (modeOf n) ≡ first n chaining block salt [] false
+    wide-is = compress-wide-number (modeOf n) (length chaining) (length block) (length salt)
+
+    pub wide-passed-on : (r : ℕ) → r ≡ wide-refusal mode → r ≡ wide-refusal-in
+    unfolding compressWideInRefusal
+    wide-passed-on r d = d ∙ numbers-on n chaining block salt [] t e one wide-refusal wide-is mode m
+
+    pub wide-left-on : (u : List ℕ) → u ≡ compressWideLeaves mode chaining block counter salt → u ≡ compressWideInLeaves n chaining block counter salt
+    unfolding compressWideInLeaves compressWideInRefusal
+    wide-left-on u l =
+        l
+        ∙ leaves-on n chaining block salt [] t e one wide-refusal wide-is mode m (λ x. compressWideLeaves x chaining block counter salt)
+        (λ k. a-refused-wide-compression-leaves-the-chaining-value k (modeOf n) chaining block counter salt)

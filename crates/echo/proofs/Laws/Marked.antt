@@ -1,7 +1,7 @@
--- The marked examples of counters and padding, and the sizes of both modes, by computation. Assumes nothing.
+-- The marked examples of counters and padding, the sizes of both modes, and counting past a half, by computation. Assumes nothing.
 use mathlib.Core.Path.{_≡_, refl, sym, ap}
 use mathlib.Core.List.{List, [], _∷_, _++_}
-use Prim.Native.Nat.{ℕ, zero, suc, _<_}
+use Prim.Native.Nat.{ℕ, zero, suc, _-_, _^_, _<_}
 use native.Mathlib.Omega.{arith}
 use lib.Dec.{lit<}
 use lib.ListN.{getD, replicate}
@@ -12,7 +12,8 @@ use Rattle.echo.specs.declared.mode.Mode.the-variants.{DoublePipe, Singl
 use Rattle.echo.specs.Digest.{blockCount, counterAt}
 use Rattle.echo.specs.Families.{blockSize, chainingSize, modeNumber, roundCount}
 use Rattle.echo.specs.Padding.{pad, padding}
-use Rattle.echo.proofs.Laws.Numbers.{lengths-are}
+use Rattle.echo.specs.Square.{wideKeysFrom}
+use Rattle.echo.proofs.Laws.Numbers.{lengths-are, wide-key-at}
 
 -- two numbers in order
 two-are : (f : ℕ → ℕ) (n a b : ℕ) → n ≡ 2 → f 0 ≡ a → f 1 ≡ b → tab n f ≡ a ∷ b ∷ []
@@ -53,3 +54,18 @@ pub sizes-of-both-modes : Hold
     ∷ [])
 unfolding blockSize chainingSize blockCount
 sizes-of-both-modes = (refl, (refl, (refl, (refl, (refl, (refl, (refl, tt)))))))
+
+-- the counters of 128 bits on both sides of 2^64 and of 2^128
+pub past-a-half : Hold
+    ((wideKeysFrom (2 ^ 64 - 1) 0 gives (replicate 8 255 ++ replicate 8 0))
+    ∷ (wideKeysFrom (2 ^ 64 - 1) 1 gives (replicate 8 0 ++ (1 ∷ replicate 7 0)))
+    ∷ (wideKeysFrom (2 ^ 128 - 1) 0 gives replicate 16 255)
+    ∷ (wideKeysFrom (2 ^ 128 - 1) 1 gives replicate 16 0)
+    ∷ [])
+past-a-half = (
+  sym (wide-key-at (2 ^ 64 - 1) 0 (2 ^ 64 - 1) refl (lit< tt)),
+  (
+    sym (wide-key-at 0 1 (2 ^ 64) refl (lit< tt)),
+    (sym (wide-key-at (2 ^ 64 - 1) (2 ^ 64 - 1) (2 ^ 128 - 1) refl (lit< tt)), (sym (wide-key-at 0 0 0 refl (lit< tt)), tt)),
+  ),
+)

@@ -12,61 +12,115 @@ use Rattle.aes_round.specs.Bytes.{tab}
 use Rattle.echo.specs.Compression.{compress}
 use Rattle.echo.specs.Refusals.{Refusal, _when_, counterTooHigh, firstOf, noSalt, unless}
 use Rattle.echo.specs.Families.{roundCount, sizesFit}
-use Rattle.echo.specs.Routines.{compressLeaves, compressRefusal, roundsRefusal}
+use Rattle.echo.specs.Routines.{compressRefusal, compressWideLeaves, compressWideRefusal, roundsRefusal, roundsWideRefusal}
 use Rattle.echo.specs.Session.{admitted, digestRefusal, isSession, limit, readAnswer, readRefusal}
-use Rattle.echo.specs.Square.{keysFrom}
+use Rattle.echo.specs.Square.{wideKeysFrom}
 use Rattle.echo.specs.declared.mode.Mode.{Mode}
 use Rattle.echo.specs.declared.session.Answer.{Answer}
 use Rattle.echo.specs.declared.session.Session.{Session}
 use Rattle.echo.proofs.Laws.Families.{Sizes, sizes-fit}
 use Rattle.echo.proofs.Laws.Words.{sixteen-are}
 
--- ---- rounds
+-- ---- rounds, whatever the counter
 
-module _ (square count counter salt : ℕ) where
-  pub rounds-2 : (salt ≡ 16 → ⊥) → 2 ≡ roundsRefusal square count counter salt
-  unfolding roundsRefusal
+module _ (square count salt : ℕ) where
+  pub rounds-2 : (salt ≡ 16 → ⊥) → 2 ≡ roundsWideRefusal square count salt
+  unfolding roundsWideRefusal
   rounds-2 s = simp (ne-eqb salt 16 s)
 
   module _ (s : salt ≡ 16) where
-    pub rounds-6-square : (square ≡ 256 → ⊥) → 6 ≡ roundsRefusal square count counter salt
-    unfolding roundsRefusal
+    pub rounds-6-square : (square ≡ 256 → ⊥) → 6 ≡ roundsWideRefusal square count salt
+    unfolding roundsWideRefusal
     rounds-6-square q = simp (eq-eqb salt 16 s, ne-eqb square 256 q)
 
     module _ (q : square ≡ 256) where
       module _ (t : Bool) (e : t ≡ (eqb count 8 || eqb count 10)) where
-        pub rounds-6-count : not t ≡ true → 6 ≡ roundsRefusal square count counter salt
-        unfolding roundsRefusal
+        pub rounds-6-count : not t ≡ true → 6 ≡ roundsWideRefusal square count salt
+        unfolding roundsWideRefusal
         rounds-6-count n = simp (eq-eqb salt 16 s, eq-eqb square 256 q, sym e ∙ not-true t n)
 
-        pub rounds-7 : not t ≡ false → 2 ^ 64 - 161 < counter → 7 ≡ roundsRefusal square count counter salt
-        unfolding roundsRefusal
-        rounds-7 n k = simp (eq-eqb salt 16 s, eq-eqb square 256 q, sym e ∙ not-false t n, lt-ltb (2 ^ 64 - 161) counter k)
+        pub rounds-0 : not t ≡ false → 0 ≡ roundsWideRefusal square count salt
+        unfolding roundsWideRefusal
+        rounds-0 n = simp (eq-eqb salt 16 s, eq-eqb square 256 q, sym e ∙ not-false t n)
 
-        pub rounds-0 : not t ≡ false → counter ≤ 2 ^ 64 - 161 → 0 ≡ roundsRefusal square count counter salt
-        unfolding roundsRefusal
-        rounds-0 n k = simp (eq-eqb salt 16 s, eq-eqb square 256 q, sym e ∙ not-false t n, le-ltb (2 ^ 64 - 161) counter k)
+-- ---- compression, whatever the counter
 
--- ---- compression
-
-module _ (mode : Mode) (chaining block counter salt : ℕ) where
-  pub compress-2 : (salt ≡ 16 → ⊥) → 2 ≡ compressRefusal mode chaining block counter salt
-  unfolding compressRefusal
+module _ (mode : Mode) (chaining block salt : ℕ) where
+  pub compress-2 : (salt ≡ 16 → ⊥) → 2 ≡ compressWideRefusal mode chaining block salt
+  unfolding compressWideRefusal
   compress-2 s = simp (ne-eqb salt 16 s)
 
   module _ (s : salt ≡ 16) where
     module _ (t : Bool) (e : t ≡ sizesFit mode chaining block) where
-      pub compress-6 : not t ≡ true → 6 ≡ compressRefusal mode chaining block counter salt
-      unfolding compressRefusal
+      pub compress-6 : not t ≡ true → 6 ≡ compressWideRefusal mode chaining block salt
+      unfolding compressWideRefusal
       compress-6 n = simp (eq-eqb salt 16 s, sym e ∙ not-true t n)
 
-      pub compress-7 : not t ≡ false → 2 ^ 64 - 161 < counter → 7 ≡ compressRefusal mode chaining block counter salt
-      unfolding compressRefusal
-      compress-7 n k = simp (eq-eqb salt 16 s, sym e ∙ not-false t n, lt-ltb (2 ^ 64 - 161) counter k)
+      pub compress-0 : not t ≡ false → 0 ≡ compressWideRefusal mode chaining block salt
+      unfolding compressWideRefusal
+      compress-0 n = simp (eq-eqb salt 16 s, sym e ∙ not-false t n)
 
-      pub compress-0 : not t ≡ false → counter ≤ 2 ^ 64 - 161 → 0 ≡ compressRefusal mode chaining block counter salt
-      unfolding compressRefusal
-      compress-0 n k = simp (eq-eqb salt 16 s, sym e ∙ not-false t n, le-ltb (2 ^ 64 - 161) counter k)
+-- ---- a counter of 64 bits: 7 comes behind the other refusals
+
+-- where they give r
+abbrev bounded : ℕ → ℕ → ℕ
+bounded counter r = unless r (firstOf ((7 when counterTooHigh counter) ∷ [])) r
+
+behind : (a b : Bool) (counter : ℕ)
+    → firstOf ((2 when a) ∷ (6 when b) ∷ (7 when counterTooHigh counter) ∷ []) ≡ bounded counter (firstOf ((2 when a) ∷ (6 when b) ∷ []))
+behind true b counter = refl
+behind false true counter = refl
+behind false false counter = refl
+
+rounds-bounded : (square count counter salt : ℕ) → roundsRefusal square count counter salt ≡ bounded counter (roundsWideRefusal square count salt)
+unfolding roundsRefusal roundsWideRefusal
+rounds-bounded square count counter salt = behind (noSalt salt) (not (eqb square 256) || not (eqb count 8 || eqb count 10)) counter
+
+compress-bounded : (mode : Mode) (chaining block counter salt : ℕ)
+    → compressRefusal mode chaining block counter salt ≡ bounded counter (compressWideRefusal mode chaining block salt)
+unfolding compressRefusal compressWideRefusal
+compress-bounded mode chaining block counter salt = behind (noSalt salt) (not (sizesFit mode chaining block)) counter
+
+-- what the code has: r, and the counter where that is 0
+module _ (counter r : ℕ) where
+  as-before : (r ≡ 0 → ⊥) → r ≡ bounded counter r
+  as-before some = by r some
+    where
+      by : (r : ℕ) → (r ≡ 0 → ⊥) → r ≡ bounded counter r
+      by zero some = absurd (some refl)
+      by (suc n) some = refl
+
+  too-high : r ≡ 0 → 2 ^ 64 - 161 < counter → 7 ≡ bounded counter r
+  too-high none k = rw none (simp (lt-ltb (2 ^ 64 - 161) counter k))
+
+  low-enough : r ≡ 0 → counter ≤ 2 ^ 64 - 161 → 0 ≡ bounded counter r
+  low-enough none k = rw none (simp (le-ltb (2 ^ 64 - 161) counter k))
+
+module _ (square count counter salt r : ℕ) (e : r ≡ roundsWideRefusal square count salt) where
+  from-rounds : (n : ℕ) → n ≡ bounded counter r → n ≡ roundsRefusal square count counter salt
+  from-rounds n p = p ∙ ap (bounded counter) e ∙ sym (rounds-bounded square count counter salt)
+
+  pub rounds-less : (r ≡ 0 → ⊥) → r ≡ roundsRefusal square count counter salt
+  rounds-less some = from-rounds r (as-before counter r some)
+
+  pub rounds-7 : r ≡ 0 → 2 ^ 64 - 161 < counter → 7 ≡ roundsRefusal square count counter salt
+  rounds-7 none k = from-rounds 7 (too-high counter r none k)
+
+  pub rounds-bounded-0 : r ≡ 0 → counter ≤ 2 ^ 64 - 161 → 0 ≡ roundsRefusal square count counter salt
+  rounds-bounded-0 none k = from-rounds 0 (low-enough counter r none k)
+
+module _ (mode : Mode) (chaining block counter salt r : ℕ) (e : r ≡ compressWideRefusal mode chaining block salt) where
+  from-compress : (n : ℕ) → n ≡ bounded counter r → n ≡ compressRefusal mode chaining block counter salt
+  from-compress n p = p ∙ ap (bounded counter) e ∙ sym (compress-bounded mode chaining block counter salt)
+
+  pub compress-less : (r ≡ 0 → ⊥) → r ≡ compressRefusal mode chaining block counter salt
+  compress-less some = from-compress r (as-before counter r some)
+
+  pub compress-7 : r ≡ 0 → 2 ^ 64 - 161 < counter → 7 ≡ compressRefusal mode chaining block counter salt
+  compress-7 none k = from-compress 7 (too-high counter r none k)
+
+  pub compress-bounded-0 : r ≡ 0 → counter ≤ 2 ^ 64 - 161 → 0 ≡ compressRefusal mode chaining block counter salt
+  compress-bounded-0 none k = from-compress 0 (low-enough counter r none k)
 
 -- ---- the digest at once
 
@@ -102,6 +156,11 @@ pub compress-number : (mode : Mode) (chaining block counter salt : ℕ)
 unfolding compressRefusal
 compress-number mode chaining block counter salt = refl
 
+pub compress-wide-number : (mode : Mode) (chaining block salt : ℕ)
+    → compressWideRefusal mode chaining block salt ≡ firstOf ((2 when noSalt salt) ∷ (6 when not (sizesFit mode chaining block)) ∷ [])
+unfolding compressWideRefusal
+compress-wide-number mode chaining block salt = refl
+
 -- ---- what no refusal means
 
 none-first : (n : ℕ) (b : Bool) (rest : List Refusal) → (n ≡ 0 → ⊥) → firstOf ((n when b) ∷ rest) ≡ 0 → (b ≡ false) × (firstOf rest ≡ 0)
@@ -117,27 +176,36 @@ one-of true b m n x p q e = inl (eqb-true x m p)
 one-of false true m n x p q e = inr (eqb-true x n q)
 one-of false false m n x p q e = absurd (true≢false (sym e))
 
-pub record RoundsFit (square count counter salt : ℕ) : Type 0 where
+pub record RoundsFit (square count salt : ℕ) : Type 0 where
   pub salt-fits : salt ≡ 16
   pub square-fits : square ≡ 256
   pub count-fits : (count ≡ 8) ⊎ (count ≡ 10)
-  pub counter-fits : counter ≤ 2 ^ 64 - 161
 
-pub rounds-fit : (square count counter salt : ℕ) → roundsRefusal square count counter salt ≡ 0 → RoundsFit square count counter salt
-unfolding roundsRefusal
-rounds-fit square count counter salt e =
+pub rounds-fit : (square count salt : ℕ) → roundsWideRefusal square count salt ≡ 0 → RoundsFit square count salt
+unfolding roundsWideRefusal
+rounds-fit square count salt e =
     let fit = not (eqb square 256) || not (eqb count 8 || eqb count 10) in
-    let high = ltb (2 ^ 64 - 161) counter in
-    let a = none-first 2 (not (eqb salt 16)) ((6 when fit) ∷ (7 when high) ∷ []) (λ z. omega arith) e in
-    let b = none-first 6 fit ((7 when high) ∷ []) (λ z. omega arith) (a .1) in
-    let c = none-first 7 high [] (λ z. omega arith) (b .1) in
+    let a = none-first 2 (not (eqb salt 16)) ((6 when fit) ∷ []) (λ z. omega arith) e in
+    let b = none-first 6 fit [] (λ z. omega arith) (a .1) in
     let d = neither (not (eqb square 256)) (not (eqb count 8 || eqb count 10)) (b .0) in
     record {
       salt-fits = eqb-true salt 16 (not-false (eqb salt 16) (a .0));
       square-fits = eqb-true square 256 (not-false (eqb square 256) (d .0));
       count-fits = one-of (eqb count 8) (eqb count 10) 8 10 count refl refl (not-false (eqb count 8 || eqb count 10) (d .1));
-      counter-fits = ltb-false (2 ^ 64 - 161) counter (c .0);
     }
+
+within : (counter r : ℕ) → bounded counter r ≡ 0 → (r ≡ 0) × (counter ≤ 2 ^ 64 - 161)
+within counter zero e = (refl, ltb-false (2 ^ 64 - 161) counter (none-first 7 (ltb (2 ^ 64 - 161) counter) [] (λ z. omega arith) e .0))
+within counter (suc n) e = absurd (omega (arith, e))
+
+-- with a counter of 64 bits none of the others either, and the bound is kept
+pub rounds-within : (square count counter salt : ℕ) → roundsRefusal square count counter salt ≡ 0
+    → (roundsWideRefusal square count salt ≡ 0) × (counter ≤ 2 ^ 64 - 161)
+rounds-within square count counter salt z = within counter _ (sym (rounds-bounded square count counter salt) ∙ z)
+
+pub compress-within : (mode : Mode) (chaining block counter salt : ℕ) → compressRefusal mode chaining block counter salt ≡ 0
+    → (compressWideRefusal mode chaining block salt ≡ 0) × (counter ≤ 2 ^ 64 - 161)
+compress-within mode chaining block counter salt z = within counter _ (sym (compress-bounded mode chaining block counter salt) ∙ z)
 
 -- a digest that was read fits its room
 pub read-fits : (s : Session) (room : ℕ) {r : Answer} → r ≡ readAnswer s room → r .refusal ≡ 0 → s .bits / 8 ≤ room
@@ -150,23 +218,18 @@ read-fits s room e z =
 pub done : {A : Type 0} (n : ℕ) (a b : A) → n ≡ 0 → unless n a b ≡ a
 done n a b e = ap (λ (k : ℕ). unless k a b) e
 
-record CompressFit (mode : Mode) (chaining block counter salt : ℕ) : Type 0 where
+record CompressFit (mode : Mode) (chaining block salt : ℕ) : Type 0 where
   salt-fits : salt ≡ 16
   sizes-are : Sizes chaining block (roundCount mode chaining)
-  counter-fits : counter ≤ 2 ^ 64 - 161
 
-compress-fit : (mode : Mode) (chaining block counter salt : ℕ) → compressRefusal mode chaining block counter salt ≡ 0
-    → CompressFit mode chaining block counter salt
-unfolding compressRefusal
-compress-fit mode chaining block counter salt e =
-    let high = ltb (2 ^ 64 - 161) counter in
-    let a = none-first 2 (not (eqb salt 16)) ((6 when not (sizesFit mode chaining block)) ∷ (7 when high) ∷ []) (λ z. omega arith) e in
-    let b = none-first 6 (not (sizesFit mode chaining block)) ((7 when high) ∷ []) (λ z. omega arith) (a .1) in
-    let c = none-first 7 high [] (λ z. omega arith) (b .1) in
+compress-fit : (mode : Mode) (chaining block salt : ℕ) → compressWideRefusal mode chaining block salt ≡ 0 → CompressFit mode chaining block salt
+unfolding compressWideRefusal
+compress-fit mode chaining block salt e =
+    let a = none-first 2 (not (eqb salt 16)) ((6 when not (sizesFit mode chaining block)) ∷ []) (λ z. omega arith) e in
+    let b = none-first 6 (not (sizesFit mode chaining block)) [] (λ z. omega arith) (a .1) in
     record {
       salt-fits = eqb-true salt 16 (not-false (eqb salt 16) (a .0));
       sizes-are = sizes-fit mode chaining block (not-false (sizesFit mode chaining block) (b .0));
-      counter-fits = ltb-false (2 ^ 64 - 161) counter (c .0);
     }
 
 -- ---- what a refusal r that the code has means to it
@@ -179,9 +242,9 @@ pub none-refused : (r n : ℕ) → r ≡ n → r ≡ 0 → 0 ≡ n
 none-refused r n e none = sym none ∙ e
 
 -- none: what the routine requires of its arguments holds, and sixteen bytes of the salt are the salt
-module _ (square : List ℕ) (count counter : ℕ) (salt : List ℕ) (r : ℕ) (e : r ≡ roundsRefusal (length square) count counter (length salt)) (none : r ≡ 0) where
-  fit : RoundsFit (length square) count counter (length salt)
-  fit = rounds-fit (length square) count counter (length salt) (sym e ∙ none)
+module _ (square : List ℕ) (count : ℕ) (salt : List ℕ) (r : ℕ) (e : r ≡ roundsWideRefusal (length square) count (length salt)) (none : r ≡ 0) where
+  fit : RoundsFit (length square) count (length salt)
+  fit = rounds-fit (length square) count (length salt) (sym e ∙ none)
 
   pub rounds-salt : 0 + 16 ≤ length salt
   rounds-salt = omega (arith, fit .salt-fits)
@@ -189,14 +252,18 @@ module _ (square : List ℕ) (count counter : ℕ) (salt : List ℕ) (r : ℕ) (
   pub rounds-square : length square ≡ 256
   rounds-square = fit .square-fits
 
-  -- the counters of all words fit
-  pub rounds-counters : counter + 16 * count ≤ 2 ^ 64
-  rounds-counters = ⊎-elim (λ e. omega (arith, fit .counter-fits)) (λ e. omega (arith, fit .counter-fits)) (fit .count-fits)
+  -- the words of all rounds can be counted
+  pub rounds-words : 16 * count ≤ 2 ^ 64
+  rounds-words = ⊎-elim (λ e. omega arith) (λ e. omega arith) (fit .count-fits)
 
-module _ (mode : Mode) (chaining block : List ℕ) (counter : ℕ) (salt : List ℕ) (r : ℕ)
-    (e : r ≡ compressRefusal mode (length chaining) (length block) counter (length salt)) (none : r ≡ 0) where
-  fits : CompressFit mode (length chaining) (length block) counter (length salt)
-  fits = compress-fit mode (length chaining) (length block) counter (length salt) (sym e ∙ none)
+  -- with a counter of 64 bits, no word's counter outgrows them
+  pub rounds-counters : (counter : ℕ) → counter ≤ 2 ^ 64 - 161 → counter + 16 * count ≤ 2 ^ 64
+  rounds-counters counter k = ⊎-elim (λ e. omega arith) (λ e. omega arith) (fit .count-fits)
+
+module _ (mode : Mode) (chaining block salt : List ℕ) (r : ℕ)
+    (e : r ≡ compressWideRefusal mode (length chaining) (length block) (length salt)) (none : r ≡ 0) where
+  fits : CompressFit mode (length chaining) (length block) (length salt)
+  fits = compress-fit mode (length chaining) (length block) (length salt) (sym e ∙ none)
 
   pub compress-salt : 0 + 16 ≤ length salt
   compress-salt = omega (arith, fits .salt-fits)
@@ -210,25 +277,28 @@ module _ (mode : Mode) (chaining block : List ℕ) (counter : ℕ) (salt : List 
   pub compress-parts : 256 ≡ length chaining * (256 / length chaining)
   compress-parts = fits .sizes-are .parts
 
-  pub compress-counters : (n : ℕ) → n ≡ roundCount mode (length chaining) → counter + 16 * n ≤ 2 ^ 64
-  compress-counters n c = omega (arith, fits .sizes-are .rounds-most, fits .counter-fits)
+  pub compress-words : (n : ℕ) → n ≡ roundCount mode (length chaining) → 16 * n ≤ 2 ^ 64
+  compress-words n c = omega (arith, fits .sizes-are .rounds-most)
 
-  pub compress-done : (n : ℕ) (x last : List ℕ) → n ≡ roundCount mode (length chaining) → x ≡ tab 16 (λ k. getD salt (0 + k) 0)
-      → last ≡ compress (length chaining) n (keysFrom counter) x chaining block → last ≡ compressLeaves mode chaining block counter salt
-  unfolding compressLeaves
-  compress-done n x last c s d =
+  pub compress-counters : (counter : ℕ) → counter ≤ 2 ^ 64 - 161 → counter + 16 * roundCount mode (length chaining) ≤ 2 ^ 64
+  compress-counters counter k = omega (arith, fits .sizes-are .rounds-most)
+
+  pub compress-done : (n counter : ℕ) (x last : List ℕ) → n ≡ roundCount mode (length chaining) → x ≡ tab 16 (λ k. getD salt (0 + k) 0)
+      → last ≡ compress (length chaining) n (wideKeysFrom counter) x chaining block → last ≡ compressWideLeaves mode chaining block counter salt
+  unfolding compressWideLeaves
+  compress-done n counter x last c s d =
       d
-      ∙ ap₂ (λ (m : ℕ) (y : List ℕ). compress (length chaining) m (keysFrom counter) y chaining block) c (s ∙ sixteen-are salt (fits .salt-fits))
+      ∙ ap₂ (λ (m : ℕ) (y : List ℕ). compress (length chaining) m (wideKeysFrom counter) y chaining block) c (s ∙ sixteen-are salt (fits .salt-fits))
       ∙ sym (done _ _ _ (sym e ∙ none))
 
 -- the rounds f, forward or backward
 module _ (f : ℕ → (ℕ → List ℕ) → List ℕ → List ℕ → List ℕ) (square : List ℕ) (count counter : ℕ) (salt : List ℕ) (r : ℕ) where
-  pub rounds-done : r ≡ roundsRefusal (length square) count counter (length salt) → r ≡ 0 → (x last : List ℕ) → x ≡ tab 16 (λ k. getD salt (0 + k) 0)
-      → last ≡ f count (keysFrom counter) x square
-      → last ≡ unless (roundsRefusal (length square) count counter (length salt)) (f count (keysFrom counter) salt square) square
+  pub rounds-done : r ≡ roundsWideRefusal (length square) count (length salt) → r ≡ 0 → (x last : List ℕ) → x ≡ tab 16 (λ k. getD salt (0 + k) 0)
+      → last ≡ f count (wideKeysFrom counter) x square
+      → last ≡ unless (roundsWideRefusal (length square) count (length salt)) (f count (wideKeysFrom counter) salt square) square
   rounds-done e none x last s d =
       d
-      ∙ ap (λ (y : List ℕ). f count (keysFrom counter) y square) (s ∙ sixteen-are salt (fit square count counter salt r e none .salt-fits))
+      ∙ ap (λ (y : List ℕ). f count (wideKeysFrom counter) y square) (s ∙ sixteen-are salt (fit square count salt r e none .salt-fits))
       ∙ sym (done _ _ _ (sym e ∙ none))
 
 pub record Digestible (bits salt message room : ℕ) : Type 0 where

@@ -3,7 +3,6 @@
 use mathlib.Core.Path.{_≡_, refl, sym, ap, _∙_}
 use mathlib.Core.List.{List}
 use Prim.Native.Nat.{ℕ, zero, suc, _+_, _-_, _*_, _<_, _≤_}
-use native.Mathlib.Nat.{add-assoc}
 use native.Mathlib.Numerals.{add-one}
 use native.Mathlib.Omega.{arith}
 use lib.ListN.{getD, length}
@@ -11,14 +10,14 @@ use Rattle.aes_round.specs.Array.{array, entry}
 use Rattle.aes_round.specs.Bytes.{Bytes}
 use Rattle.aes_round.specs.Mixing.{backward, forward}
 use Rattle.aes_round.specs.Rounds.{aesRound, aesRoundBack}
-use Rattle.aes_round.proofs.Laws.Array.{array-bytes, array-ext, entry-array, entry-byte, is-array}
+use Rattle.aes_round.proofs.Laws.Array.{array-bytes, entry-array, entry-byte, is-array}
 use Rattle.aes_round.proofs.Laws.Bytes.{getD-tab, is-tab, tab-bytes}
 use Rattle.aes_round.proofs.Laws.Mixing.{backward-bytes, forward-bytes}
 use Rattle.aes_round.proofs.Laws.Rounds.{length-round, length-round-back, mix-columns-back-undone, mix-columns-bytes, mix-columns-undone}
 use Rattle.aes_round.proofs.Laws.Rounds.{round-back-bytes, round-back-undone, round-bytes, round-undone, shift-back-bytes, shift-back-undone}
 use Rattle.aes_round.proofs.Laws.Rounds.{shift-bytes, shift-undone}
 use Rattle.echo.specs.Square.{bigMixColumns, bigMixColumnsBack, bigRound, bigRoundBack, bigShiftRows, bigShiftRowsBack, bigSubWords}
-use Rattle.echo.specs.Square.{bigSubWordsBack, counterKey, keysFrom, rounds, roundsBack, word}
+use Rattle.echo.specs.Square.{bigSubWordsBack, rounds, roundsBack, word}
 
 -- the subkeys are words
 abbrev pub Keys : (ℕ → List ℕ) → Type 0
@@ -145,47 +144,39 @@ module _ (key : ℕ → List ℕ) (salt : List ℕ) (K : Keys key) (L : Bytes 16
       ap (bigRound (λ i. key (16 * n + i)) salt) (rounds-back-undone n _ (round-back-is-square _ salt (keys-of n) L s S))
       ∙ big-round-back-undone _ salt (keys-of n) L s S
 
--- ---- what the code's loops do: round after round, with the counter raised by 16 for each
+-- ---- what the code's loops do, round after round
 
--- a round whose first word uses the counter C + 16 n, its words rewritten by f
-keys-on : (f : List ℕ → List ℕ → List ℕ) (C n : ℕ) (s : List ℕ)
-    → array 16 (λ i b. getD (f (word s i) (keysFrom (C + 16 * n) i)) b 0) ≡ array 16 (λ i b. getD (f (word s i) (keysFrom C (16 * n + i))) b 0)
-keys-on f C n s = array-ext 16 _ _ (λ i b hi hb. ap (λ (k : ℕ). getD (f (word s i) (counterKey k)) b 0) (add-assoc C (16 * n) i))
-
-module _ (C : ℕ) (salt s₀ : List ℕ) where
+module _ (key : ℕ → List ℕ) (salt s₀ : List ℕ) where
   -- n rounds are done, from the square s₀ to s
   pub Ran : ℕ → List ℕ → Type 0
-  Ran n s = s ≡ rounds n (keysFrom C) salt s₀
+  Ran n s = s ≡ rounds n key salt s₀
 
   pub ran-none : Ran 0 s₀
   unfolding Ran rounds
   ran-none = refl
 
   -- the premises stand in the order in which `search` finds them within its bounds
-  pub ran-more : (n : ℕ) (s a b c : List ℕ) → Ran n s → b ≡ bigShiftRows a → c ≡ bigMixColumns b → a ≡ bigSubWords (keysFrom (C + 16 * n)) salt s
+  pub ran-more : (n : ℕ) (s a b c : List ℕ) → Ran n s → b ≡ bigShiftRows a → c ≡ bigMixColumns b → a ≡ bigSubWords (λ i. key (16 * n + i)) salt s
       → Ran (n + 1) c
-  unfolding Ran rounds bigRound bigSubWords
+  unfolding Ran rounds bigRound
   ran-more n s a b c R shift mix sub =
       mix
-      ∙ ap bigMixColumns
-      (shift
-      ∙ ap bigShiftRows
-      (sub ∙ keys-on (λ w k. aesRound (aesRound w k) salt) C n s ∙ ap (bigSubWords (λ i. keysFrom C (16 * n + i)) salt) R))
-      ∙ ap (λ (m : ℕ). rounds m (keysFrom C) salt s₀) (sym (add-one n))
+      ∙ ap bigMixColumns (shift ∙ ap bigShiftRows (sub ∙ ap (bigSubWords (λ i. key (16 * n + i)) salt) R))
+      ∙ ap (λ (m : ℕ). rounds m key salt s₀) (sym (add-one n))
 
   -- the same of the rounds themselves
   pub one-more : (n : ℕ)
-      → bigMixColumns (bigShiftRows (bigSubWords (keysFrom (C + 16 * n)) salt (rounds n (keysFrom C) salt s₀))) ≡ rounds (n + 1) (keysFrom C) salt s₀
+      → bigMixColumns (bigShiftRows (bigSubWords (λ i. key (16 * n + i)) salt (rounds n key salt s₀))) ≡ rounds (n + 1) key salt s₀
   unfolding Ran
   one-more n = ran-more n _ _ _ _ refl refl refl refl
 
-  pub ran-all : (n count : ℕ) (s : List ℕ) → Ran n s → n ≤ count → count ≤ n → s ≡ rounds count (keysFrom C) salt s₀
+  pub ran-all : (n count : ℕ) (s : List ℕ) → Ran n s → n ≤ count → count ≤ n → s ≡ rounds count key salt s₀
   unfolding Ran
-  ran-all n count s R most least = let same : n ≡ count = omega arith in R ∙ ap (λ (m : ℕ). rounds m (keysFrom C) salt s₀) same
+  ran-all n count s R most least = let same : n ≡ count = omega arith in R ∙ ap (λ (m : ℕ). rounds m key salt s₀) same
 
   -- the way back: n rounds of `count` are left to undo, from the square s
   pub Left : ℕ → ℕ → List ℕ → Type 0
-  Left count n s = roundsBack n (keysFrom C) salt s ≡ roundsBack count (keysFrom C) salt s₀
+  Left count n s = roundsBack n key salt s ≡ roundsBack count key salt s₀
 
   module _ (count : ℕ) where
     pub all-left : Left count count s₀
@@ -193,17 +184,14 @@ module _ (C : ℕ) (salt s₀ : List ℕ) where
     all-left = refl
 
     pub less-left : (n : ℕ) (s a b c : List ℕ) → Left count n s → 0 < n → a ≡ bigMixColumnsBack s → b ≡ bigShiftRowsBack a
-        → c ≡ bigSubWordsBack (keysFrom (C + 16 * (n - 1))) salt b → Left count (n - 1) c
-    unfolding Left roundsBack bigRoundBack bigSubWordsBack
+        → c ≡ bigSubWordsBack (λ i. key (16 * (n - 1) + i)) salt b → Left count (n - 1) c
+    unfolding Left roundsBack bigRoundBack
     less-left n s a b c L h mix shift sub =
         let one : suc (n - 1) ≡ n = omega arith in
-        ap (roundsBack (n - 1) (keysFrom C) salt)
-        (sub
-        ∙ keys-on (λ w k. aesRoundBack (aesRoundBack w salt) k) C (n - 1) b
-        ∙ ap (bigSubWordsBack (λ i. keysFrom C (16 * (n - 1) + i)) salt) (shift ∙ ap bigShiftRowsBack mix))
-        ∙ ap (λ (m : ℕ). roundsBack m (keysFrom C) salt s) one
+        ap (roundsBack (n - 1) key salt) (sub ∙ ap (bigSubWordsBack (λ i. key (16 * (n - 1) + i)) salt) (shift ∙ ap bigShiftRowsBack mix))
+        ∙ ap (λ (m : ℕ). roundsBack m key salt s) one
         ∙ L
 
-    pub none-left : (n : ℕ) (s : List ℕ) → Left count n s → n ≤ 0 → s ≡ roundsBack count (keysFrom C) salt s₀
+    pub none-left : (n : ℕ) (s : List ℕ) → Left count n s → n ≤ 0 → s ≡ roundsBack count key salt s₀
     unfolding Left roundsBack
-    none-left n s L none = let same : 0 ≡ n = omega arith in ap (λ (m : ℕ). roundsBack m (keysFrom C) salt s) same ∙ L
+    none-left n s L none = let same : 0 ≡ n = omega arith in ap (λ (m : ℕ). roundsBack m key salt s) same ∙ L

@@ -1,8 +1,8 @@
--- `rounds` meets its contract: a refusal leaves the square, and else the run is `run`'s. Assumes nothing.
+-- `rounds` meets its contract: a refusal leaves the square, and else it is `rounds_wide` with the upper half zero. Assumes nothing.
 use borrow.Author.Needs.{needs}
 use Rattle.echo.specs.Routines.{roundsLeave}
-use Rattle.echo.specs.Square.{rounds}
-use Rattle.echo.proofs.Laws.Refusals.{none-refused, refused, rounds-counters, rounds-done, rounds-salt, rounds-square}
+use Rattle.echo.proofs.Laws.Refusals.{refused}
+use Rattle.echo.proofs.Laws.UpperHalfZero.{same-rounds, same-rounds-refusal}
 use Rattle.echo.proofs.run.rounds.Statement.{statement}
 use Rattle.echo.proofs.run.rounds.Tie as tie
 
@@ -13,20 +13,14 @@ returns : tie.Need-returns
 unfolding roundsLeave
 returns c = (search, search refused)
 
-sixteen-requires : tie.Need-sixteen-requires
-sixteen-requires c κs = search rounds-salt
-
-run-requires : tie.Need-run-requires
-run-requires c κs = (search rounds-square, search rounds-counters)
+rounds-wide-requires : tie.Need-rounds-wide-requires
+rounds-wide-requires c κs = search needs
 
 same-length : tie.Need-same-length
 same-length c = search needs
 
 returns-2 : tie.Need-returns-2
-unfolding roundsLeave
-returns-2 c = (search none-refused, search (rounds-done rounds))
+returns-2 c = (search same-rounds-refusal, search same-rounds)
 
 pub rounds-spec : {M : Type 1} → statement M
-rounds-spec =
-    tie.close
-    (tie.spec rounds-refusal-requires returns sixteen-requires run-requires same-length returns-2)
+rounds-spec = tie.close (tie.spec rounds-refusal-requires returns rounds-wide-requires same-length returns-2)

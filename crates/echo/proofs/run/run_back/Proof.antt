@@ -4,12 +4,15 @@ use Prim.Native.Nat.{_≤_}
 use native.Mathlib.Omega.{arith}
 use lib.ListN.{length}
 use borrow.Author.Needs.{needs}
+use Rattle.echo.specs.Numbers.{halves}
+use Rattle.echo.specs.Square.{wideKeysFrom}
 use Rattle.echo.proofs.Laws.Square.{Left, all-left, less-left, none-left}
 use Rattle.echo.proofs.run.run_back.Statement.{statement}
 use Rattle.echo.proofs.run.run_back.Tie as tie
 
 abbrev Inv-loop : tie.InvT-loop
-Inv-loop s₀ count counter salt left₀ s left = (length s ≡ 256) × (left ≤ count) × Left counter salt s₀ count left s
+Inv-loop s₀ count counter salt left₀ s left =
+    (length s ≡ 256) × (left ≤ count) × Left (wideKeysFrom (halves (counter .low) (counter .high))) salt s₀ count left s
 
 abbrev μ-loop : tie.MeasureT-loop
 μ-loop s₀ count counter salt left₀ s left = left
@@ -28,9 +31,6 @@ shift-rows-back-requires c κs = search needs
 
 mul-sub-words-back : tie.Need-mul-sub-words-back Inv-loop μ-loop
 mul-sub-words-back c = omega arith
-
-add-sub-words-back : tie.Need-add-sub-words-back Inv-loop μ-loop
-add-sub-words-back c = omega arith
 
 sub-words-back-requires : tie.Need-sub-words-back-requires Inv-loop μ-loop
 sub-words-back-requires c κs = (search needs, omega arith)
@@ -58,7 +58,6 @@ run-back-spec =
     mix-columns-back-requires
     shift-rows-back-requires
     mul-sub-words-back
-    add-sub-words-back
     sub-words-back-requires
     loop-less
     loop-again

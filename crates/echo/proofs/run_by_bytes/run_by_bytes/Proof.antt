@@ -4,12 +4,14 @@ use Prim.Native.Nat.{_-_, _≤_}
 use native.Mathlib.Omega.{arith}
 use lib.ListN.{length}
 use borrow.Author.Needs.{needs}
+use Rattle.echo.specs.Numbers.{halves}
+use Rattle.echo.specs.Square.{wideKeysFrom}
 use Rattle.echo.proofs.Laws.Square.{Ran, ran-all, ran-more, ran-none}
 use Rattle.echo.proofs.run_by_bytes.run_by_bytes.Statement.{statement}
 use Rattle.echo.proofs.run_by_bytes.run_by_bytes.Tie as tie
 
 abbrev Inv-loop : tie.InvT-loop
-Inv-loop s₀ count counter salt r₀ s r = (length s ≡ 256) × (r ≤ count) × Ran counter salt s₀ r s
+Inv-loop s₀ count counter salt r₀ s r = (length s ≡ 256) × (r ≤ count) × Ran (wideKeysFrom (halves (counter .low) (counter .high))) salt s₀ r s
 
 abbrev μ-loop : tie.MeasureT-loop
 μ-loop s₀ count counter salt r₀ s r = count - r
@@ -19,9 +21,6 @@ loop-holds c = (search needs, search needs, search ran-none)
 
 mul-sub-words : tie.Need-mul-sub-words Inv-loop μ-loop
 mul-sub-words c = omega arith
-
-add-sub-words : tie.Need-add-sub-words Inv-loop μ-loop
-add-sub-words c = omega arith
 
 sub-words-requires : tie.Need-sub-words-requires Inv-loop μ-loop
 sub-words-requires c κs = (search needs, omega arith)
@@ -55,7 +54,6 @@ run-by-bytes-spec =
     μ-loop
     loop-holds
     mul-sub-words
-    add-sub-words
     sub-words-requires
     shift-rows-requires
     mix-columns-requires

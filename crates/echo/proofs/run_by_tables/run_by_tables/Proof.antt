@@ -5,12 +5,13 @@ use borrow.Author.Needs.{needs}
 use Rattle.aes_round.specs.Bytes.{Bytes}
 use Rattle.aes_round.proofs.Laws.Bytes.{bytes-fit}
 use Rattle.aes_round.proofs.Laws.ByTables.{row-0, row-1, row-2, row-3}
+use Rattle.echo.specs.Numbers.{halves}
 use Rattle.echo.proofs.Laws.ByTables.{RanBy, ran-by-all, ran-by-more, ran-by-none}
 use Rattle.echo.proofs.run_by_tables.run_by_tables.Statement.{statement}
 use Rattle.echo.proofs.run_by_tables.run_by_tables.Tie as tie
 
 abbrev Inv-loop : tie.InvT-loop
-Inv-loop s count counter t u v w key square₀ r₀ square r = (r ≤ count) × Bytes 256 s × RanBy counter key s r square
+Inv-loop s count counter t u v w key square₀ r₀ square r = (r ≤ count) × Bytes 256 s × RanBy (halves (counter .low) (counter .high)) key s r square
 
 abbrev μ-loop : tie.MeasureT-loop
 μ-loop s count counter t u v w key square₀ r₀ square r = count - r
@@ -29,9 +30,6 @@ loop-holds c = (search needs, search (bytes-fit, needs), search ran-by-none)
 
 mul-sub-and-shift : tie.Need-mul-sub-and-shift Inv-loop μ-loop
 mul-sub-and-shift c = omega arith
-
-add-sub-and-shift : tie.Need-add-sub-and-shift Inv-loop μ-loop
-add-sub-and-shift c = omega arith
 
 sub-and-shift-requires : tie.Need-sub-and-shift-requires Inv-loop μ-loop
 sub-and-shift-requires c κs = (search row-0, (search row-1, (search row-2, (search row-3, omega arith))))
@@ -68,7 +66,6 @@ run-by-tables-spec =
     numbers-of-square-requires
     loop-holds
     mul-sub-and-shift
-    add-sub-and-shift
     sub-and-shift-requires
     mix-square-requires
     add-r

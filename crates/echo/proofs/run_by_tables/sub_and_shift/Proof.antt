@@ -1,15 +1,17 @@
 -- `sub_and_shift` meets its contract, a word a turn. Assumes nothing.
-use Prim.Native.Nat.{_-_, _≤_}
+use Prim.Native.Nat.{_+_, _-_, _≤_}
 use borrow.Author.Needs.{needs}
+use Rattle.echo.specs.Numbers.{halves}
+use Rattle.echo.specs.Square.{wideKeysFrom}
 use Rattle.echo.proofs.Laws.ByTables.{Shifted, all-shifted, more-shifted, none-shifted}
 use Rattle.echo.proofs.run_by_tables.sub_and_shift.Statement.{statement}
 use Rattle.echo.proofs.run_by_tables.sub_and_shift.Tie as tie
 
 abbrev Inv-loop : tie.InvT-loop
-Inv-loop t u v w counter salt s r₀ e₀ r e = (e ≤ 16) × Shifted s salt counter r₀ e r
+Inv-loop t u v w counter first salt s r₀ e₀ r e = (e ≤ 16) × Shifted s salt (λ i. wideKeysFrom (halves (counter .low) (counter .high)) (first + i)) r₀ e r
 
 abbrev μ-loop : tie.MeasureT-loop
-μ-loop t u v w counter salt s r₀ e₀ r e = 16 - e
+μ-loop t u v w counter first salt s r₀ e₀ r e = 16 - e
 
 loop-holds : tie.Need-loop-holds Inv-loop μ-loop
 loop-holds c = (search needs, search (none-shifted, needs))

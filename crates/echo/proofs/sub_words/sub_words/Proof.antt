@@ -1,18 +1,20 @@
 -- `sub_words` meets its contract: the loop rewrites word after word. Assumes nothing.
 use mathlib.Core.Path.{_≡_}
-use Prim.Native.Nat.{_-_, _≤_}
+use Prim.Native.Nat.{_+_, _-_, _≤_}
 use lib.ListN.{length}
 use borrow.Author.Needs.{needs}
-use Rattle.echo.specs.Square.{keysFrom, word}
+use Rattle.echo.specs.Numbers.{halves}
+use Rattle.echo.specs.Square.{wideKeysFrom}
 use Rattle.echo.proofs.Laws.Words.{Through, forth, next-through, none-through, through-forth}
 use Rattle.echo.proofs.sub_words.sub_words.Statement.{statement}
 use Rattle.echo.proofs.sub_words.sub_words.Tie as tie
 
 abbrev Inv-loop : tie.InvT-loop
-Inv-loop s₀ counter salt j₀ s j = (length s ≡ 256) × (j ≤ 16) × Through forth (keysFrom counter) salt s₀ j s
+Inv-loop s₀ counter first salt j₀ s j =
+    (length s ≡ 256) × (j ≤ 16) × Through forth (λ i. wideKeysFrom (halves (counter .low) (counter .high)) (first + i)) salt s₀ j s
 
 abbrev μ-loop : tie.MeasureT-loop
-μ-loop s₀ counter salt j₀ s j = 16 - j
+μ-loop s₀ counter first salt j₀ s j = 16 - j
 
 loop-holds : tie.Need-loop-holds Inv-loop μ-loop
 loop-holds c = (search needs, search needs, search none-through)

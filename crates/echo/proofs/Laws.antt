@@ -11,6 +11,7 @@ pub mod Rows
 pub mod Columns
 pub mod SquareNumbers
 pub mod MixedNumbers
+pub mod ShiftedNumbers
 pub mod ByTables
 pub mod Compression
 pub mod Marked

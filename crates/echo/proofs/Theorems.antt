@@ -222,15 +222,14 @@ the-marked-examples-hold s =
 
 -- ---- the path by tables, on the square as 64 numbers
 
--- the word e after BIG.SubWords and BIG.ShiftRows: it comes from the place 5 e (mod 16), and has the key of that place
-pub a-word-by-tables : (key : ℕ → List ℕ) (salt s : List ℕ) (e : ℕ)
-    → Bytes 16 (key (5 * e % 16))
+-- the word i after BIG.SubWords, whatever its subkey
+pub a-word-by-tables : (key : ℕ → List ℕ) (salt s : List ℕ) (i : ℕ)
+    → Bytes 16 (key i)
     → Bytes 16 salt
     → Bytes 256 s
-    → e < 16
-    → let i = 5 * e % 16 in
-    let round = tableRound (rowTable 0) (rowTable 1) (rowTable 2) (rowTable 3) in
-    numbers 4 (word (bigShiftRows (bigSubWords key salt s)) e) ≡ round (round (numbers 4 (word s i)) (numbers 4 (key i))) (numbers 4 salt)
+    → i < 16
+    → let round = tableRound (rowTable 0) (rowTable 1) (rowTable 2) (rowTable 3) in
+    numbers 4 (word (bigSubWords key salt s) i) ≡ round (round (numbers 4 (word s i)) (numbers 4 (key i))) (numbers 4 salt)
 a-word-by-tables = by-tables.word-by-tables
 
 -- the number j of the word i in the column c of the square after BIG.MixColumns

@@ -44,8 +44,8 @@ fn word_by_tables(
     aes_round::round_by_tables(t, u, v, w, once, salt)
 }
 
-// BIG.SubWords and BIG.ShiftRows (sections 3.1 and 3.2) at once: the word e comes from the place 5 e (mod 16), and has the number of that place.
-fn sub_and_shift(
+// BIG.SubWords (section 3.1), a word after the other where it stands: the word i is that of the number `first` + i.
+fn sub_numbers(
     t: &[u32; 256],
     u: &[u32; 256],
     v: &[u32; 256],
@@ -60,37 +60,37 @@ fn sub_and_shift(
     requires { ⌜ now v ≡ rowTable 2 ⌝ }
     requires { ⌜ now w ≡ rowTable 3 ⌝ }
     requires { ⌜ first + 15 < 2 ^ 64 ⌝ }
-    ensures { λ r. ⌜ r ≡ numbers 64 (bigShiftRows (bigSubWords (λ i. wideKeysFrom (halves (counter .low) (counter .high)) (first + i)) (bytesOf 4 salt) (bytesOf 64 s))) ⌝ }
+    ensures { λ r. ⌜ r ≡ numbers 64 (bigSubWords (λ i. wideKeysFrom (halves (counter .low) (counter .high)) (first + i)) (bytesOf 4 salt) (bytesOf 64 s)) ⌝ }
 {
-    let mut r = [0u32; 64];
-    for e in 0..16 {
-        let i = 5 * e % 16;
-        let a = s[4 * i];
-        let b = s[4 * i + 1];
-        let c = s[4 * i + 2];
-        let d = s[4 * i + 3];
+    let mut r = s;
+    for i in 0..16 {
+        let a = r[4 * i];
+        let b = r[4 * i + 1];
+        let c = r[4 * i + 2];
+        let d = r[4 * i + 3];
         let through = word_by_tables(t, u, v, w, [a, b, c, d], counter, first + i as u64, salt);
-        r[4 * e] = through[0];
-        r[4 * e + 1] = through[1];
-        r[4 * e + 2] = through[2];
-        r[4 * e + 3] = through[3];
+        r[4 * i] = through[0];
+        r[4 * i + 1] = through[1];
+        r[4 * i + 2] = through[2];
+        r[4 * i + 3] = through[3];
     }
     r
 }
 
-// BIG.MixColumns (section 3.3), four byte positions at once. With the columns of the square in the inner loop the compiler does four of them at
-// once too; the other way round a digest takes a sixth longer.
-fn mix_square(s: [u32; 64]) -> [u32; 64]
-    ensures { λ r. ⌜ r ≡ numbers 64 (bigMixColumns (bytesOf 64 s)) ⌝ }
+// BIG.ShiftRows and BIG.MixColumns (sections 3.2 and 3.3) at once, four byte positions at a time: the word i of a column comes from i columns
+// further on. With the columns of the square in the inner loop the compiler does four of them at once too; the other way round a digest takes a
+// sixth longer.
+fn shift_and_mix(s: [u32; 64]) -> [u32; 64]
+    ensures { λ r. ⌜ r ≡ numbers 64 (bigMixColumns (bigShiftRows (bytesOf 64 s))) ⌝ }
 {
     let mut r = [0u32; 64];
     for j in 0..4 {
         for c in 0..4 {
             let at = 16 * c + j;
             let a = s[at];
-            let b = s[at + 4];
-            let x = s[at + 8];
-            let y = s[at + 12];
+            let b = s[(at + 20) % 64];
+            let x = s[(at + 40) % 64];
+            let y = s[(at + 60) % 64];
             let m = aes_round::mix_numbers([a, b, x, y]);
             r[at] = m[0];
             r[at + 4] = m[1];
@@ -114,8 +114,8 @@ pub(crate) fn run_by_tables(s: &mut [u8], count: u64, counter: Counter, salt: [u
     let key = numbers_of_word(salt);
     let mut square = numbers_of_square(s);
     for r in 0..count {
-        let shifted = sub_and_shift(&t, &u, &v, &w, square, counter, 16 * r, key);
-        square = mix_square(shifted);
+        let substituted = sub_numbers(&t, &u, &v, &w, square, counter, 16 * r, key);
+        square = shift_and_mix(substituted);
     }
     put_numbers(s, square);
 }

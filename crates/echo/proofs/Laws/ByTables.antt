@@ -2,7 +2,7 @@
 use mathlib.Core.Path.{_≡_, sym, ap, ap₂, _∙_, subst}
 use mathlib.Core.List.{List, [], _∷_}
 use Prim.Native.Nat.{ℕ, _+_, _*_, _/_, _%_, _^_, _<_, _≤_}
-use native.Mathlib.Nat.{add-mul-div-left, add-mul-mod-self-left, div-div-eq-div-mul, div-eq-of-lt, div-one, mod-eq-of-lt, mod-lt}
+use native.Mathlib.Nat.{add-mul-div-left, add-mul-mod-self-left, div-div-eq-div-mul, div-eq-of-lt, div-one, mod-eq-of-lt}
 use native.Mathlib.Nat.{mul-assoc, one-mul, zero-add}
 use native.Mathlib.Omega.{arith}
 use mir.Syntax.{w32}
@@ -18,13 +18,12 @@ use Rattle.aes_round.proofs.Laws.Bytes.{getD-tab}
 use Rattle.aes_round.proofs.Laws.ByTables.{table-round}
 use Rattle.aes_round.proofs.Laws.Fill.{Filled, fill-more, fill-none}
 use Rattle.aes_round.proofs.Laws.Numbers.{byte-is, bytes-of-bytes, bytes-of-numbers, number-ext, number-low, numbers-of-bytes}
-use Rattle.aes_round.proofs.Laws.Rounds.{round-bytes, shift-bytes}
+use Rattle.aes_round.proofs.Laws.Rounds.{round-bytes}
 use Rattle.echo.specs.Numbers.{littleEndian}
 use Rattle.echo.specs.Numbers.{halves}
 use Rattle.echo.specs.Square.{bigMixColumns, bigShiftRows, bigSubWords, rounds, wideKey, wideKeysFrom, word}
 use Rattle.echo.proofs.Laws.Numbers.{wide-key-bytes}
 use Rattle.echo.proofs.Laws.Square.{one-more, rounds-are-squares, sub-words-bytes, sub-words-word, word-bytes}
-use Rattle.echo.proofs.Laws.Words.{shifted-word}
 use Rattle.echo.proofs.Laws.SquareNumbers.{four-stores, fourBy, numberOf, numbers-of-word, putBy, square-numbers, word-numbers, word-of-four}
 
 -- ---- a word through two rounds
@@ -95,67 +94,60 @@ two-by-tables t u v w word salt once r low high κ et eu ev ew eo er lw fw ls fs
     ∙ ap₂ (twice _) (sym (numbers-of-bytes 4 salt ls (λ k. fs k .fits))) (sym (numbers-of-bytes 4 word lw (λ k. fw k .fits)))
     ∙ twice-is _ (bytesOf 4 salt) (bytesOf 4 word) (wide-key-bytes _) (bytes-of-bytes 4 salt) (bytes-of-bytes 4 word))
 
--- ---- BIG.SubWords and BIG.ShiftRows, a word a turn
+-- ---- BIG.SubWords, a word a turn
 
--- the numbers of a word of the square after both steps
-pub word-by-tables : (key : ℕ → List ℕ) (salt s : List ℕ) (e : ℕ) → Bytes 16 (key (5 * e % 16)) → Bytes 16 salt → Bytes 256 s → e < 16
-    → numbers 4 (word (bigShiftRows (bigSubWords key salt s)) e)
-    ≡ twice (numbers 4 (key (5 * e % 16))) (numbers 4 salt) (numbers 4 (word s (5 * e % 16)))
-word-by-tables key salt s e K L S h =
-    let i = 5 * e % 16 in
-    ap (numbers 4) (shifted-word _ e h ∙ sub-words-word key salt s i (mod-lt _ (lit< tt))) ∙ sym (twice-is (key i) salt (word s i) K L (word-bytes s i S))
+-- the numbers of a word of the square
+pub word-by-tables : (key : ℕ → List ℕ) (salt s : List ℕ) (i : ℕ) → Bytes 16 (key i) → Bytes 16 salt → Bytes 256 s → i < 16
+    → numbers 4 (word (bigSubWords key salt s) i) ≡ twice (numbers 4 (key i)) (numbers 4 salt) (numbers 4 (word s i))
+word-by-tables key salt s i K L S h = ap (numbers 4) (sub-words-word key salt s i h) ∙ sym (twice-is (key i) salt (word s i) K L (word-bytes s i S))
 
-module _ (s salt : List ℕ) (key : ℕ → List ℕ) (r₀ : List ℕ) where
-  -- the square that the numbers s have, after both steps
-  shifted : List ℕ
-  shifted = bigShiftRows (bigSubWords key (bytesOf 4 salt) (bytesOf 64 s))
+module _ (s salt : List ℕ) (key : ℕ → List ℕ) where
+  -- the square that the numbers s have, substituted
+  substituted : List ℕ
+  substituted = bigSubWords key (bytesOf 4 salt) (bytesOf 64 s)
 
-  -- the first e words of r are there, and the others are still those of r₀
-  pub Shifted : ℕ → List ℕ → Type 0
-  Shifted e r = Filled 64 (numberOf shifted) r₀ (4 * e) r
+  -- the first i words of r are there, and the others are still those of s
+  pub Substituted : ℕ → List ℕ → Type 0
+  Substituted i r = Filled 64 (numberOf substituted) s (4 * i) r
 
-  pub none-shifted : length r₀ ≡ 64 → Shifted 0 r₀
-  unfolding Shifted
-  none-shifted = fill-none 64 (numberOf shifted) r₀
+  pub none-substituted : length s ≡ 64 → Substituted 0 s
+  unfolding Substituted
+  none-substituted = fill-none 64 (numberOf substituted) s
 
-  -- where the word e comes from
-  shifted-from : (e : ℕ) → e < 16
-      → word shifted e
-      ≡ aesRound (aesRound (bytesOf 4 (fourBy 1 s (4 * (5 * e % 16)))) (key (5 * e % 16))) (bytesOf 4 salt)
-  unfolding shifted
-  shifted-from e h =
-      let i = 5 * e % 16 in
-      let l : i < 16 = mod-lt _ (lit< tt) in
-      shifted-word _ e h ∙ sub-words-word key _ _ i l
-      ∙ ap (λ (w : List ℕ). aesRound (aesRound w (key i)) (bytesOf 4 salt)) (sym (word-of-four s i l))
-
-  pub more-shifted : (e : ℕ) (r v : List ℕ) → Shifted e r → e < 16
-      → v ≡ numbers 4 (aesRound (aesRound (bytesOf 4 (fourBy 1 s (4 * (5 * e % 16)))) (key (5 * e % 16))) (bytesOf 4 salt))
-      → Shifted (e + 1) (putBy 1 r (4 * e) v)
-  unfolding Shifted
-  more-shifted e r v F h ev =
-      subst (λ (m : ℕ). Filled 64 (numberOf shifted) r₀ m (putBy 1 r (4 * e) v)) (steps e)
-      (four-stores (Filled 64 (numberOf shifted) r₀) 1 (4 * e) (4 * e) r v one F)
+  -- the word i of r, which is still that of s
+  word-of : (i : ℕ) (r : List ℕ) → Filled 64 (numberOf substituted) s (4 * i) r → i < 16
+      → aesRound (aesRound (bytesOf 4 (fourBy 1 r (4 * i))) (key i)) (bytesOf 4 salt) ≡ word substituted i
+  unfolding substituted
+  word-of i r F h =
+      ap (λ (w : List ℕ). aesRound (aesRound w (key i)) (bytesOf 4 salt)) (ap (bytesOf 4) same ∙ word-of-four s i h)
+      ∙ sym (sub-words-word key (bytesOf 4 salt) (bytesOf 64 s) i h)
     where
-      steps : (e : ℕ) → 4 * e + 4 ≡ 4 * (e + 1)
-      steps e = omega arith
+      same : fourBy 1 r (4 * i) ≡ fourBy 1 s (4 * i)
+      same = rw (F .rest (4 * i) (omega arith), F .rest (4 * i + 1) (omega arith), F .rest (4 * i + 2) (omega arith), F .rest (4 * i + 3) (omega arith))
 
-      one : (i : ℕ) → i < 4 → (q : List ℕ) → Filled 64 (numberOf shifted) r₀ (4 * e + i) q
-          → Filled 64 (numberOf shifted) r₀ (4 * e + i + 1) (set q (4 * e + 1 * i) (getD v i 0))
-      one i l q G =
-          subst (λ (k : ℕ). Filled 64 (numberOf shifted) r₀ (4 * e + i + 1) (set q k (getD v i 0))) (ap (λ (k : ℕ). 4 * e + k) (sym (one-mul i)))
-          (fill-more 64 (numberOf shifted) r₀ (4 * e + i) q (getD v i 0) G (omega arith)
-          (ap (λ (w : List ℕ). getD w i 0) (ev ∙ ap (numbers 4) (sym (shifted-from e h))) ∙ numbers-of-word shifted e i l))
+  pub more-substituted : (i : ℕ) (r v : List ℕ) → Substituted i r → i < 16
+      → v ≡ numbers 4 (aesRound (aesRound (bytesOf 4 (fourBy 1 r (4 * i))) (key i)) (bytesOf 4 salt))
+      → Substituted (i + 1) (putBy 1 r (4 * i) v)
+  unfolding Substituted
+  more-substituted i r v F h ev =
+      subst (λ (m : ℕ). Filled 64 (numberOf substituted) s m (putBy 1 r (4 * i) v)) (steps i)
+      (four-stores (Filled 64 (numberOf substituted) s) 1 (4 * i) (4 * i) r v one F)
+    where
+      steps : (i : ℕ) → 4 * i + 4 ≡ 4 * (i + 1)
+      steps i = omega arith
 
-  pub all-shifted : (e : ℕ) (r : List ℕ) → Shifted e r → 16 ≤ e → r ≡ numbers 64 (bigShiftRows (bigSubWords key (bytesOf 4 salt) (bytesOf 64 s)))
-  unfolding Shifted shifted
-  all-shifted e r F h = square-numbers _ r₀ r (4 * e) F (omega arith)
+      one : (k : ℕ) → k < 4 → (q : List ℕ) → Filled 64 (numberOf substituted) s (4 * i + k) q
+          → Filled 64 (numberOf substituted) s (4 * i + k + 1) (set q (4 * i + 1 * k) (getD v k 0))
+      one k l q G =
+          subst (λ (m : ℕ). Filled 64 (numberOf substituted) s (4 * i + k + 1) (set q m (getD v k 0))) (ap (λ (m : ℕ). 4 * i + m) (sym (one-mul k)))
+          (fill-more 64 (numberOf substituted) s (4 * i + k) q (getD v k 0) G (omega arith)
+          (ap (λ (w : List ℕ). getD w k 0) (ev ∙ ap (numbers 4) (word-of i r F h)) ∙ numbers-of-word substituted i k l))
+
+  pub all-substituted : (i : ℕ) (r : List ℕ) → Substituted i r → 16 ≤ i → r ≡ numbers 64 (bigSubWords key (bytesOf 4 salt) (bytesOf 64 s))
+  unfolding Substituted substituted
+  all-substituted i r F h = square-numbers _ s r (4 * i) F (omega arith)
 
 -- ---- a round
-
-shifted-bytes : (s : List ℕ) → Bytes 256 s → Bytes 256 (bigShiftRows s)
-unfolding bigShiftRows
-shifted-bytes = shift-bytes 16
 
 module _ (C : ℕ) (salt s₀ : List ℕ) where
   -- the square after n rounds under the salt of these numbers
@@ -175,23 +167,19 @@ module _ (C : ℕ) (salt s₀ : List ℕ) where
   ran-bytes S n = rounds-are-squares (wideKeysFrom C) _ (λ i. wide-key-bytes _) (bytes-of-bytes 4 salt) n s₀ S
 
   pub ran-by-more : (n : ℕ) (a b c : List ℕ) → RanBy n a → Bytes 256 s₀
-      → b ≡ numbers 64 (bigShiftRows (bigSubWords (λ i. wideKeysFrom C (16 * n + i)) (bytesOf 4 salt) (bytesOf 64 a)))
-      → c ≡ numbers 64 (bigMixColumns (bytesOf 64 b)) → RanBy (n + 1) c
+      → b ≡ numbers 64 (bigSubWords (λ i. wideKeysFrom C (16 * n + i)) (bytesOf 4 salt) (bytesOf 64 a))
+      → c ≡ numbers 64 (bigMixColumns (bigShiftRows (bytesOf 64 b))) → RanBy (n + 1) c
   unfolding RanBy ran
   ran-by-more n a b c ea S eb ec =
-      ec ∙ ap (λ (x : List ℕ). numbers 64 (bigMixColumns x)) same ∙ ap (numbers 64) (one-more (wideKeysFrom C) (bytesOf 4 salt) s₀ n)
+      ec ∙ ap (λ (x : List ℕ). numbers 64 (bigMixColumns (bigShiftRows x))) same ∙ ap (numbers 64) (one-more (wideKeysFrom C) (bytesOf 4 salt) s₀ n)
     where
-      substituted : List ℕ
-      substituted = bigSubWords (λ i. wideKeysFrom C (16 * n + i)) (bytesOf 4 salt) (ran n)
+      sub : List ℕ → List ℕ
+      sub = bigSubWords (λ i. wideKeysFrom C (16 * n + i)) (bytesOf 4 salt)
 
-      same : bytesOf 64 b ≡ bigShiftRows substituted
+      same : bytesOf 64 b ≡ sub (ran n)
       same =
-          ap (bytesOf 64)
-          (eb
-          ∙ ap (λ (x : List ℕ). numbers 64 (bigShiftRows (bigSubWords (λ i. wideKeysFrom C (16 * n + i)) (bytesOf 4 salt) x)))
-          (ap (bytesOf 64) ea ∙ bytes-of-numbers 64 (ran n) (ran-bytes S n)))
-          ∙ bytes-of-numbers 64 _
-          (shifted-bytes substituted (sub-words-bytes _ _ (λ i. wide-key-bytes _) (bytes-of-bytes 4 salt) (ran n) (ran-bytes S n)))
+          ap (bytesOf 64) (eb ∙ ap (λ (x : List ℕ). numbers 64 (sub x)) (ap (bytesOf 64) ea ∙ bytes-of-numbers 64 (ran n) (ran-bytes S n)))
+          ∙ bytes-of-numbers 64 _ (sub-words-bytes _ _ (λ i. wide-key-bytes _) (bytes-of-bytes 4 salt) (ran n) (ran-bytes S n))
 
   pub ran-by-all : (n count : ℕ) (a t w : List ℕ) → t ≡ bytesOf 64 a → RanBy n a → n ≤ count → count ≤ n → Bytes 256 s₀
       → salt ≡ numbers 4 w → Bytes 16 w → t ≡ rounds count (wideKeysFrom C) w s₀

@@ -28,14 +28,14 @@ numbers-of-square-requires c κs = search needs
 loop-holds : tie.Need-loop-holds Inv-loop μ-loop
 loop-holds c = (search needs, search (bytes-fit, needs), search ran-by-none)
 
-mul-sub-and-shift : tie.Need-mul-sub-and-shift Inv-loop μ-loop
-mul-sub-and-shift c = omega arith
+mul-sub-numbers : tie.Need-mul-sub-numbers Inv-loop μ-loop
+mul-sub-numbers c = omega arith
 
-sub-and-shift-requires : tie.Need-sub-and-shift-requires Inv-loop μ-loop
-sub-and-shift-requires c κs = (search row-0, (search row-1, (search row-2, (search row-3, omega arith))))
+sub-numbers-requires : tie.Need-sub-numbers-requires Inv-loop μ-loop
+sub-numbers-requires c κs = (search row-0, (search row-1, (search row-2, (search row-3, omega arith))))
 
-mix-square-requires : tie.Need-mix-square-requires Inv-loop μ-loop
-mix-square-requires c κs = search needs
+shift-and-mix-requires : tie.Need-shift-and-mix-requires Inv-loop μ-loop
+shift-and-mix-requires c κs = search needs
 
 add-r : tie.Need-add-r Inv-loop μ-loop
 add-r c = search needs
@@ -65,9 +65,9 @@ run-by-tables-spec =
     numbers-of-word-requires
     numbers-of-square-requires
     loop-holds
-    mul-sub-and-shift
-    sub-and-shift-requires
-    mix-square-requires
+    mul-sub-numbers
+    sub-numbers-requires
+    shift-and-mix-requires
     add-r
     loop-less
     loop-again

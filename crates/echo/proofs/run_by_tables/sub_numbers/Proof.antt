@@ -1,23 +1,20 @@
--- `sub_and_shift` meets its contract, a word a turn. Assumes nothing.
+-- `sub_numbers` meets its contract, a word a turn. Assumes nothing.
 use Prim.Native.Nat.{_+_, _-_, _≤_}
 use borrow.Author.Needs.{needs}
 use Rattle.echo.specs.Numbers.{halves}
 use Rattle.echo.specs.Square.{wideKeysFrom}
-use Rattle.echo.proofs.Laws.ByTables.{Shifted, all-shifted, more-shifted, none-shifted}
-use Rattle.echo.proofs.run_by_tables.sub_and_shift.Statement.{statement}
-use Rattle.echo.proofs.run_by_tables.sub_and_shift.Tie as tie
+use Rattle.echo.proofs.Laws.ByTables.{Substituted, all-substituted, more-substituted, none-substituted}
+use Rattle.echo.proofs.run_by_tables.sub_numbers.Statement.{statement}
+use Rattle.echo.proofs.run_by_tables.sub_numbers.Tie as tie
 
 abbrev Inv-loop : tie.InvT-loop
-Inv-loop t u v w counter first salt s r₀ e₀ r e = (e ≤ 16) × Shifted s salt (λ i. wideKeysFrom (halves (counter .low) (counter .high)) (first + i)) r₀ e r
+Inv-loop t u v w counter first salt r₀ i₀ r i = (i ≤ 16) × Substituted r₀ salt (λ k. wideKeysFrom (halves (counter .low) (counter .high)) (first + k)) i r
 
 abbrev μ-loop : tie.MeasureT-loop
-μ-loop t u v w counter first salt s r₀ e₀ r e = 16 - e
+μ-loop t u v w counter first salt r₀ i₀ r i = 16 - i
 
 loop-holds : tie.Need-loop-holds Inv-loop μ-loop
-loop-holds c = (search needs, search (none-shifted, needs))
-
-mul-i : tie.Need-mul-i Inv-loop μ-loop
-mul-i c = search needs
+loop-holds c = (search needs, search (none-substituted, needs))
 
 mul-a : tie.Need-mul-a Inv-loop μ-loop
 mul-a c = search needs
@@ -127,26 +124,25 @@ mul-r-8 c = search needs
 array-write-r-4 : tie.Need-array-write-r-4 Inv-loop μ-loop
 array-write-r-4 c = search needs
 
-add-e : tie.Need-add-e Inv-loop μ-loop
-add-e c = search needs
+add-i : tie.Need-add-i Inv-loop μ-loop
+add-i c = search needs
 
 loop-less : tie.Need-loop-less Inv-loop μ-loop
 loop-less c = search needs
 
 loop-again : tie.Need-loop-again Inv-loop μ-loop
-loop-again c = (search needs, search more-shifted)
+loop-again c = (search needs, search more-substituted)
 
 returns : tie.Need-returns Inv-loop μ-loop
-returns c = search all-shifted
+returns c = search all-substituted
 
-pub sub-and-shift-spec : {M : Type 1} → statement M
-sub-and-shift-spec =
+pub sub-numbers-spec : {M : Type 1} → statement M
+sub-numbers-spec =
     tie.close
     (tie.spec
     Inv-loop
     μ-loop
     loop-holds
-    mul-i
     mul-a
     mul-a-2
     array-read-a
@@ -183,7 +179,7 @@ sub-and-shift-spec =
     add-r-3
     mul-r-8
     array-write-r-4
-    add-e
+    add-i
     loop-less
     loop-again
     returns)

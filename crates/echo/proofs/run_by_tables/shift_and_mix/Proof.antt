@@ -1,18 +1,19 @@
--- `mix_square` meets its contract: a turn of the inner loop stores four numbers. Assumes nothing.
+-- `shift_and_mix` meets its contract: a turn of the inner loop stores four numbers. Assumes nothing.
 use Prim.Native.Nat.{_+_, _*_, _-_, _<_, _≤_}
 use borrow.Author.Needs.{needs}
-use Rattle.echo.proofs.Laws.MixedNumbers.{Stored, all-stored, begin-stored, end-stored, next-stored, none-stored}
-use Rattle.echo.proofs.run_by_tables.mix_square.Statement.{statement}
-use Rattle.echo.proofs.run_by_tables.mix_square.Tie as tie
+use Rattle.echo.proofs.Laws.MixedNumbers.{Stored, begin-stored, end-stored, none-stored}
+use Rattle.echo.proofs.Laws.ShiftedNumbers.{all-shifted, next-shifted, shifted}
+use Rattle.echo.proofs.run_by_tables.shift_and_mix.Statement.{statement}
+use Rattle.echo.proofs.run_by_tables.shift_and_mix.Tie as tie
 
 abbrev Inv-loop2 : tie.InvT-loop2
-Inv-loop2 s r₀ j c₀ r c = (j < 4) × (c ≤ 4) × Stored s (16 * j + 4 * c) r
+Inv-loop2 s r₀ j c₀ r c = (j < 4) × (c ≤ 4) × Stored (shifted s) (16 * j + 4 * c) r
 
 abbrev μ-loop2 : tie.MeasureT-loop2
 μ-loop2 s r₀ j c₀ r c = 4 - c
 
 abbrev Inv-loop : tie.InvT-loop
-Inv-loop s r₀ j₀ r j = (j ≤ 4) × Stored s (16 * j) r
+Inv-loop s r₀ j₀ r j = (j ≤ 4) × Stored (shifted s) (16 * j) r
 
 abbrev μ-loop : tie.MeasureT-loop
 μ-loop s r₀ j₀ r j = 4 - j
@@ -117,7 +118,7 @@ loop2-less : tie.Need-loop2-less Inv-loop2 μ-loop2 Inv-loop μ-loop
 loop2-less c = search needs
 
 loop2-again : tie.Need-loop2-again Inv-loop2 μ-loop2 Inv-loop μ-loop
-loop2-again c = (search needs, search needs, search next-stored)
+loop2-again c = (search needs, search needs, search (next-shifted, needs))
 
 add-j : tie.Need-add-j Inv-loop2 μ-loop2 Inv-loop μ-loop
 add-j c = search needs
@@ -129,10 +130,10 @@ loop-again : tie.Need-loop-again Inv-loop2 μ-loop2 Inv-loop μ-loop
 loop-again c = (search needs, search end-stored)
 
 returns : tie.Need-returns Inv-loop2 μ-loop2 Inv-loop μ-loop
-returns c = search all-stored
+returns c = search all-shifted
 
-pub mix-square-spec : {M : Type 1} → statement M
-mix-square-spec =
+pub shift-and-mix-spec : {M : Type 1} → statement M
+shift-and-mix-spec =
     tie.close
     (tie.spec
     Inv-loop2

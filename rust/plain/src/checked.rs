@@ -93,36 +93,56 @@ pub fn hmac_check_refusal(bits: u64, salt: usize, (key, message): (u64, u64)) ->
 
 /// Rounds forward over a lent square. Refusals 2, 6, 7.
 pub fn rounds(lent: &mut [u8], count: u64, counter: u64, salt: &[u8]) -> u8 {
+    match square_refusal(lent, count, salt) {
+        refusal::NONE if counter > COUNTER_LIMIT => refusal::COUNTER,
+        _ => rounds_wide(lent, count, counter.into(), salt),
+    }
+}
+
+/// The same from any counter of 128 bits. Refusals 2, 6.
+pub fn rounds_wide(lent: &mut [u8], count: u64, counter: u128, salt: &[u8]) -> u8 {
     on_square(lent, count, counter, salt, square::rounds)
 }
 
 /// Rounds backward over a lent square, from the starting counter of the way
 /// forward. Refusals 2, 6, 7.
 pub fn rounds_back(lent: &mut [u8], count: u64, counter: u64, salt: &[u8]) -> u8 {
+    match square_refusal(lent, count, salt) {
+        refusal::NONE if counter > COUNTER_LIMIT => refusal::COUNTER,
+        _ => rounds_back_wide(lent, count, counter.into(), salt),
+    }
+}
+
+/// The same from any counter of 128 bits. Refusals 2, 6.
+pub fn rounds_back_wide(lent: &mut [u8], count: u64, counter: u128, salt: &[u8]) -> u8 {
     on_square(lent, count, counter, salt, square::rounds_back)
 }
 
 fn on_square(
     lent: &mut [u8],
     count: u64,
-    counter: u64,
+    counter: u128,
     salt: &[u8],
-    work: fn(&mut Square, u64, u64, &Word),
+    work: fn(&mut Square, u64, u128, &Word),
 ) -> u8 {
+    let refused = square_refusal(lent, count, salt);
+    if refused == refusal::NONE {
+        let square = lent.try_into().expect("a square of 256 bytes");
+        work(square, count, counter, &word(salt));
+    }
+    refused
+}
+
+/// What a square, a round count and a salt are refused by.
+fn square_refusal(lent: &[u8], count: u64, salt: &[u8]) -> u8 {
+    let counts = [family::SHORT.rounds, family::LONG.rounds];
     if salt.len() != 16 {
-        return refusal::SALT;
+        refusal::SALT
+    } else if lent.len() != size_of::<Square>() || !counts.contains(&count) {
+        refusal::SHAPE
+    } else {
+        refusal::NONE
     }
-    let Ok(lent) = <&mut Square>::try_from(lent) else {
-        return refusal::SHAPE;
-    };
-    if count != family::SHORT.rounds && count != family::LONG.rounds {
-        return refusal::SHAPE;
-    }
-    if counter > COUNTER_LIMIT {
-        return refusal::COUNTER;
-    }
-    work(lent, count, counter, &word(salt));
-    refusal::NONE
 }
 
 /// Takes a block into a lent chaining value, in double-pipe. Refusals 2, 6, 7.
@@ -132,20 +152,38 @@ pub fn compress(chaining: &mut [u8], block: &[u8], counter: u64, salt: &[u8]) ->
 
 /// The same in the mode of a number. Refusals 2, 6, 7.
 pub fn compress_in(mode: u8, chaining: &mut [u8], block: &[u8], counter: u64, salt: &[u8]) -> u8 {
+    match compressed_in(mode, chaining, block, salt) {
+        Ok(_) if counter > COUNTER_LIMIT => refusal::COUNTER,
+        _ => compress_wide(mode, chaining, block, counter.into(), salt),
+    }
+}
+
+/// The same from any counter of 128 bits. Refusals 2, 6.
+pub fn compress_wide(
+    mode: u8,
+    chaining: &mut [u8],
+    block: &[u8],
+    counter: u128,
+    salt: &[u8],
+) -> u8 {
+    match compressed_in(mode, chaining, block, salt) {
+        Ok(mode) => {
+            compression::compress(mode, chaining, block, counter, &word(salt));
+            refusal::NONE
+        }
+        Err(refused) => refused,
+    }
+}
+
+/// The mode of a compression, or what its number, the sizes and the salt are
+/// refused by.
+fn compressed_in(mode: u8, chaining: &[u8], block: &[u8], salt: &[u8]) -> Result<Mode, u8> {
     if salt.len() != 16 {
-        return refusal::SALT;
+        return Err(refusal::SALT);
     }
-    let Some(mode) = Mode::of_number(mode) else {
-        return refusal::SHAPE;
-    };
-    if family::of_sizes(mode, chaining.len(), block.len()).is_none() {
-        return refusal::SHAPE;
-    }
-    if counter > COUNTER_LIMIT {
-        return refusal::COUNTER;
-    }
-    compression::compress(mode, chaining, block, counter, &word(salt));
-    refusal::NONE
+    let fits = |mode: &Mode| family::of_sizes(*mode, chaining.len(), block.len()).is_some();
+    let mode = Mode::of_number(mode).filter(fits);
+    mode.ok_or(refusal::SHAPE)
 }
 
 /// The fingerprint of a steering table: the 256-bit digest of the whole table,

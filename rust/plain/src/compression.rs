@@ -10,7 +10,7 @@ use crate::square::{self, Square};
 /// bytes of chaining value and 192 of block, and COMPRESS1024 for 128 and 128; in
 /// single-pipe the compression of section 5.1 for 32 and 224, and that of section
 /// 5.2 for 64 and 192. Panics on other sizes.
-pub fn compress(mode: Mode, chaining: &mut [u8], block: &[u8], counter: u64, salt: &Word) {
+pub fn compress(mode: Mode, chaining: &mut [u8], block: &[u8], counter: u128, salt: &Word) {
     let family = family::of_sizes(mode, chaining.len(), block.len()).expect("sizes of a family");
     let start = load(chaining, block);
     let mut finished = start;

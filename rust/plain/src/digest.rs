@@ -14,7 +14,7 @@ pub fn digest(mode: Mode, bits: u64, salt: &Word, message: &[u8]) -> Vec<u8> {
     let counters = counters(mode, bits, message.len() as u64);
     let mut chaining = initial(mode, bits);
     for (block, counter) in padded.chunks(block_bytes).zip(counters) {
-        compress(mode, &mut chaining, block, counter, salt);
+        compress(mode, &mut chaining, block, counter.into(), salt);
     }
     chaining.truncate(bits as usize / 8);
     chaining

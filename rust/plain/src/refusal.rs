@@ -17,7 +17,7 @@ pub const ROOM: u8 = 5;
 /// A number of no mode, sizes of no family of the mode, no square, a round count
 /// of no family, or a reading place past the table's end.
 pub const SHAPE: u8 = 6;
-/// The starting counter is over [`COUNTER_LIMIT`].
+/// The starting counter is over [`COUNTER_LIMIT`], where it is taken in 64 bits.
 pub const COUNTER: u8 = 7;
 /// The table is over [`TABLE_LIMIT`].
 pub const TABLE: u8 = 8;
@@ -29,8 +29,8 @@ pub const CUT_SHORT: u8 = 10;
 /// The most bytes of a message. One more would bring its bit count to
 /// 2^64 - 160, from where the paper's section 3.1 asks for the longer counter.
 pub const MESSAGE_LIMIT: u64 = (1 << 61) - 21;
-/// The highest starting counter: the last of ten rounds' 160 words then uses
-/// 2^64 - 2, and the counter never wraps.
+/// The highest starting counter that is taken in 64 bits: the last of ten rounds'
+/// 160 words then uses 2^64 - 2, and the counter never leaves them.
 pub const COUNTER_LIMIT: u64 = u64::MAX - 160;
 /// The most bytes of a table.
 pub const TABLE_LIMIT: usize = 4096;

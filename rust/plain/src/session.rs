@@ -113,7 +113,7 @@ impl Session {
         let mut value = self.chaining[..chaining].to_vec();
         for (index, bytes) in (self.taken / block as u64..).zip(blocks) {
             let counter = counter(self.mode, self.bits, n, index);
-            compress(self.mode, &mut value, bytes, counter, &self.salt);
+            compress(self.mode, &mut value, bytes, counter.into(), &self.salt);
         }
         value
     }

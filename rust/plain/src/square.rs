@@ -12,9 +12,9 @@ use crate::substitution::tables;
 pub type Square = [u8; 256];
 
 /// BIG.ROUND, `count` times. Word j of round r, both from 0, uses the counter
-/// `counter` + 16r + j: it rises through all words and rounds. The paper's
-/// section 3 and 3.1.
-pub fn rounds(square: &mut Square, count: u64, counter: u64, salt: &Word) {
+/// `counter` + 16r + j: it rises through all words and rounds, modulo 2^128. The
+/// paper's section 3 and 3.1.
+pub fn rounds(square: &mut Square, count: u64, counter: u128, salt: &Word) {
     for round in 0..count {
         sub_words(square, counter_of_round(counter, round), salt);
         shift_rows(square);
@@ -23,7 +23,7 @@ pub fn rounds(square: &mut Square, count: u64, counter: u64, salt: &Word) {
 }
 
 /// The way back of [`rounds`] with the same count, starting counter and salt.
-pub fn rounds_back(square: &mut Square, count: u64, counter: u64, salt: &Word) {
+pub fn rounds_back(square: &mut Square, count: u64, counter: u128, salt: &Word) {
     for round in (0..count).rev() {
         mix_columns_back(square);
         shift_rows_back(square);
@@ -31,24 +31,22 @@ pub fn rounds_back(square: &mut Square, count: u64, counter: u64, salt: &Word) {
     }
 }
 
-/// The counter of word 0 in a round. Counters are 64 bits long and would wrap;
-/// the admitted starting counters keep below that.
-pub fn counter_of_round(counter: u64, round: u64) -> u64 {
-    counter.wrapping_add(round.wrapping_mul(16))
+/// The counter of word 0 in a round.
+pub fn counter_of_round(counter: u128, round: u64) -> u128 {
+    counter.wrapping_add(u128::from(round) * 16)
 }
 
 /// The key of a word's first AES round: the counter, least significant byte
-/// first, and eight zeros. The paper's section 3.1.
+/// first. Those of the basic version, with 64 bits and eight zeros behind them, are
+/// the counters below 2^64. The paper's section 3.1.
 #[inline]
-pub fn counter_key(counter: u64) -> Word {
-    let mut key = [0; 16];
-    key[..8].copy_from_slice(&counter.to_le_bytes());
-    key
+pub fn counter_key(counter: u128) -> Word {
+    counter.to_le_bytes()
 }
 
 /// BIG.SubWords: two AES rounds on each word, the first keyed by the counter,
 /// the second by the salt; then the counter rises by one. The paper's section 3.1.
-fn sub_words(square: &mut Square, counter: u64, salt: &Word) {
+fn sub_words(square: &mut Square, counter: u128, salt: &Word) {
     let tables = tables();
     let mut counter = counter;
     for word in words(square) {
@@ -59,7 +57,7 @@ fn sub_words(square: &mut Square, counter: u64, salt: &Word) {
 }
 
 /// The way back of BIG.SubWords, with the counter of word 0.
-fn sub_words_back(square: &mut Square, counter: u64, salt: &Word) {
+fn sub_words_back(square: &mut Square, counter: u128, salt: &Word) {
     let tables = tables();
     let mut counter = counter;
     for word in words(square) {

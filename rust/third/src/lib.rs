@@ -26,7 +26,11 @@ mod by_instruction {
         None
     }
 
-    pub fn rounds(_: &mut [u8; 256], _: u64, _: u64, _: &Word) -> bool {
+    pub fn rounds(_: &mut [u8; 256], _: u64, _: u128, _: &Word) -> bool {
+        false
+    }
+
+    pub fn compress(_: Mode, _: &mut [u8], _: &[u8], _: u128, _: &Word) -> bool {
         false
     }
 
@@ -55,8 +59,23 @@ pub fn round(word: Word, key: Word) -> Option<Word> {
 
 /// ECHO's BIG.ROUND, `count` times. Gives false and leaves the square alone
 /// where the processor has no such instruction.
-pub fn rounds(square: &mut [u8; 256], count: u64, counter: u64, salt: &Word) -> bool {
+pub fn rounds(square: &mut [u8; 256], count: u64, counter: u128, salt: &Word) -> bool {
     by_instruction::rounds(square, count, counter, salt)
+}
+
+/// Takes a block into a chaining value. Gives false and leaves the chaining value
+/// alone where the processor has no such instruction. Panics on sizes that the mode
+/// does not have.
+pub fn compress(mode: Mode, chaining: &mut [u8], block: &[u8], counter: u128, salt: &Word) -> bool {
+    let sizes = match mode {
+        Mode::DoublePipe => [64, 128],
+        Mode::SinglePipe => [32, 64],
+    };
+    assert!(
+        sizes.contains(&chaining.len()) && chaining.len() + block.len() == 256,
+        "sizes that are not the mode's"
+    );
+    by_instruction::compress(mode, chaining, block, counter, salt)
 }
 
 /// The digest of `bits` bits; none where the processor has no such instruction.

@@ -1,7 +1,8 @@
-//! The digest of a message: its blocks, their counters and the padding.
+//! The digest of a message: its blocks, their counters and the padding; and one
+//! block by itself.
 
 use crate::processor::{load, load_all, store, xor, Vector};
-use crate::square::rounds;
+use crate::square::{rounds, Counter};
 use crate::{Mode, Word};
 
 /// The most bytes behind the whole blocks: two of the longest block, which has
@@ -38,6 +39,10 @@ fn iterate<const C: usize>(bits: u64, count: u64, salt: Vector, message: &[u8]) 
     let taken = (1..).map(|blocks| 8 * blocks * block_bytes as u64);
     let end = end[..size].chunks_exact(block_bytes).zip([first, 0]);
     for (block, counter) in whole.zip(taken).chain(end) {
+        let counter = Counter {
+            low: counter,
+            high: 0,
+        };
         compress(&mut chaining, block, count, counter, salt);
     }
     let mut bytes: Vec<u8> = chaining.into_iter().flat_map(store).collect();
@@ -59,6 +64,23 @@ fn last_blocks(bits: u64, bit_count: u64, left: &[u8], block_bytes: usize) -> ([
     (end, size)
 }
 
+/// Takes one block into a chaining value of C words, by so many rounds.
+#[inline]
+#[target_feature(enable = "aes")]
+pub fn compress_bytes<const C: usize>(
+    chaining: &mut [u8],
+    block: &[u8],
+    count: u64,
+    counter: Counter,
+    salt: Word,
+) {
+    let mut words: [Vector; C] = load_all(chaining);
+    compress(&mut words, block, count, counter, load(salt));
+    for (bytes, word) in chaining.chunks_exact_mut(16).zip(words) {
+        bytes.copy_from_slice(&store(word));
+    }
+}
+
 /// Takes a block into a chaining value: xors the block's words and those of the
 /// finished square into it, each at its place modulo C. For two words that is v0
 /// with x0 and x2 of section 5.1, and v1 with x1 and x3.
@@ -68,7 +90,7 @@ fn compress<const C: usize>(
     chaining: &mut [Vector; C],
     block: &[u8],
     count: u64,
-    counter: u64,
+    counter: Counter,
     salt: Vector,
 ) {
     let mut square = [load([0; 16]); 16];

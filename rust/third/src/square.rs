@@ -5,15 +5,34 @@ use crate::processor::{counter_key, double, round, xor, Vector};
 /// The words w0 to w15, column by column.
 pub type Square = [Vector; 16];
 
-/// BIG.ROUND, `count` times, with a counter that rises by one from word to word
-/// and goes on from round to round.
+/// The halves of a counter of 128 bits.
+#[derive(Clone, Copy)]
+pub struct Counter {
+    pub low: u64,
+    pub high: u64,
+}
+
+impl Counter {
+    /// The counter of the word with this number in a run, as a key. No run is so
+    /// long that the lower half goes over more than once.
+    #[inline]
+    #[target_feature(enable = "aes")]
+    fn key(self, word: u64) -> Vector {
+        let (low, over) = self.low.overflowing_add(word);
+        counter_key(low, self.high.wrapping_add(over.into()))
+    }
+}
+
+/// BIG.ROUND, `count` times. The words are numbered through all rounds, and each
+/// one's number is added to the counter.
 #[inline]
 #[target_feature(enable = "aes")]
-pub fn rounds(mut square: Square, count: u64, mut counter: u64, salt: Vector) -> Square {
+pub fn rounds(mut square: Square, count: u64, counter: Counter, salt: Vector) -> Square {
+    let mut number = 0;
     for _ in 0..count {
         for word in &mut square {
-            *word = round(round(*word, counter_key(counter)), salt);
-            counter = counter.wrapping_add(1);
+            *word = round(round(*word, counter.key(number)), salt);
+            number += 1;
         }
         square = shift_and_mix(square);
     }

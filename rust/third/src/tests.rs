@@ -3,8 +3,30 @@ use plain::hex;
 use seeded::Generator;
 use Mode::{DoublePipe, SinglePipe};
 
-/// Starting counters at both ends, and those whose words cross the lower half.
-const COUNTERS: [u64; 6] = [0, 1, 240, 1 << 32, (1 << 32) - 80, u64::MAX - 160];
+/// Starting counters at both ends, and those whose words cross the lower half of 64
+/// bits; and with an upper half of 64 bits.
+const COUNTERS: [u128; 11] = [
+    0,
+    1,
+    240,
+    1 << 32,
+    (1 << 32) - 80,
+    HALF - 161,
+    3 * HALF,
+    (1 << 127) - 80,
+    1 << 127,
+    0x0f0e_0d0c_0b0a_0908_0706_0504_0302_0100,
+    u128::MAX - 160,
+];
+
+/// 2^64, where a counter leaves its lower half.
+const HALF: u128 = 1 << 64;
+
+/// Starts around 2^64, and the last ones below 2^128: the 160 words of ten rounds
+/// leave the lower half, and begin anew, at each of them once.
+fn starts() -> impl Iterator<Item = u128> {
+    (HALF - 160..=HALF + 160).chain(u128::MAX - 159..=u128::MAX)
+}
 
 /// Published digests of the empty message under the all-zero salt.
 const PUBLISHED: [(u64, &str); 4] = [
@@ -62,6 +84,64 @@ fn rounds_by_the_instruction_are_the_plain_rounds() {
             assert_eq!(given, expected);
         }
     }
+}
+
+#[test]
+fn rounds_are_the_plain_rounds_wherever_the_halves_go_over() {
+    let mut generator = Generator::new(6);
+    let mut edges = 0;
+    for counter in starts() {
+        for count in [8, 10] {
+            let (start, salt) = (generator.bytes(), generator.bytes());
+            let (mut given, mut expected) = (start, start);
+            if rounds(&mut given, count, counter, &salt) {
+                plain::square::rounds(&mut expected, count, counter, &salt);
+            }
+            assert_eq!(given, expected, "{count} rounds from {counter}");
+            edges += u32::from(counter >> 64 != counter.wrapping_add(159) >> 64);
+        }
+    }
+    assert_eq!(edges, 2 * (159 + 159));
+}
+
+/// All sizes of both modes, and that of the example in C.
+#[test]
+fn compressions_are_the_plain_compressions() {
+    let mut generator = Generator::new(7);
+    for counter in COUNTERS.into_iter().chain(starts()) {
+        for (mode, plain, chaining) in [
+            (DoublePipe, plain::mode::Mode::DoublePipe, 64),
+            (DoublePipe, plain::mode::Mode::DoublePipe, 128),
+            (SinglePipe, plain::mode::Mode::SinglePipe, 32),
+            (SinglePipe, plain::mode::Mode::SinglePipe, 64),
+        ] {
+            let (start, block) = (generator.vector(chaining), generator.vector(256 - chaining));
+            let salt = generator.bytes();
+            let (mut given, mut expected) = (start.clone(), start);
+            if compress(mode, &mut given, &block, counter, &salt) {
+                plain::compression::compress(plain, &mut expected, &block, counter, &salt);
+            }
+            assert_eq!(given, expected, "{mode:?}, {chaining} bytes from {counter}");
+        }
+    }
+}
+
+/// The value that the tests of `plain` have for `examples/counters.c`.
+#[test]
+fn the_compression_of_the_example_in_c() {
+    let start: [u8; 64] = std::array::from_fn(|i| i as u8);
+    let block: [u8; 192] = std::array::from_fn(|i| 64 + i as u8);
+    let mut given = start;
+    if compress(DoublePipe, &mut given, &block, HALF - 80, &[0; 16]) {
+        let tests = include_str!("../../plain/src/compression/tests.rs");
+        assert!(tests.contains(&format!("\"{}\"", hex::encode(&given))));
+    }
+}
+
+#[test]
+#[should_panic(expected = "sizes that are not the mode's")]
+fn other_sizes_are_a_mistake_of_the_caller() {
+    compress(SinglePipe, &mut [0; 128], &[0; 128], 0, &[0; 16]);
 }
 
 #[test]

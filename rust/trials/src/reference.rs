@@ -65,7 +65,7 @@ fn third(case: &Case) -> Option<Outcome> {
         }
         Routine::Rounds { count, counter } => {
             let square = third.lent.as_mut_slice().try_into().ok()?;
-            if !third::rounds(square, count, counter, salt) {
+            if !third::rounds(square, count, counter.into(), salt) {
                 return None;
             }
         }

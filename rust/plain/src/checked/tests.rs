@@ -186,11 +186,108 @@ fn rounds_do_the_work_of_the_square() {
     for count in [8, 10] {
         let mut lent = [0xee; 256];
         let mut expected = lent;
-        square::rounds(&mut expected, count, u64::MAX - 160, &SALT);
+        square::rounds(&mut expected, count, COUNTER_LIMIT.into(), &SALT);
         assert_eq!(rounds(&mut lent, count, u64::MAX - 160, &SALT), 0);
         assert_eq!(lent, expected);
         assert_eq!(rounds_back(&mut lent, count, u64::MAX - 160, &SALT), 0);
         assert_eq!(lent, [0xee; 256]);
+    }
+}
+
+/// Counters of 128 bits: at both ends, and where those of 64 bits are refused.
+const WIDE: [u128; 6] = [
+    0,
+    COUNTER_LIMIT as u128,
+    COUNTER_LIMIT as u128 + 1,
+    u64::MAX as u128,
+    1 << 64,
+    u128::MAX,
+];
+
+#[test]
+fn wide_rounds_are_refused_for_no_counter() {
+    let mut lent = [0xee; 257];
+    for counter in WIDE {
+        for (size, count, salt, number) in [
+            (256, 8, 15, 2),
+            (256, 10, 17, 2),
+            (255, 9, 0, 2),
+            (0, 8, 16, 6),
+            (255, 8, 16, 6),
+            (257, 10, 16, 6),
+            (256, 0, 16, 6),
+            (256, 9, 16, 6),
+            (256, (1 << 32) + 8, 16, 6),
+        ] {
+            for work in [rounds_wide, rounds_back_wide] {
+                let refused = work(&mut lent[..size], count, counter, &[9; 17][..salt]);
+                assert_eq!(refused, number);
+                assert_eq!(lent, [0xee; 257]);
+            }
+        }
+        for count in [8, 10] {
+            let square = &mut lent[..256];
+            let mut expected = [0xee; 256];
+            square::rounds(&mut expected, count, counter, &SALT);
+            assert_eq!(rounds_wide(square, count, counter, &SALT), 0);
+            assert_eq!(square, expected);
+            assert_eq!(rounds_back_wide(square, count, counter, &SALT), 0);
+            assert_eq!(lent, [0xee; 257]);
+        }
+    }
+}
+
+/// Where the counter in 64 bits is not refused, and where it is.
+#[test]
+fn wide_and_not_agree_up_to_the_limit() {
+    let limit = COUNTER_LIMIT;
+    for counter in [0, 1536, limit - 1, limit, limit + 1, u64::MAX] {
+        let number = if counter > limit { 7 } else { 0 };
+        for count in [8, 10] {
+            let (mut one, mut other) = ([0xee; 256], [0xee; 256]);
+            assert_eq!(rounds(&mut one, count, counter, &SALT), number);
+            assert_eq!(rounds_wide(&mut other, count, counter.into(), &SALT), 0);
+            assert_eq!(one == other, number == 0);
+            let (mut one, mut other) = ([0xee; 256], [0xee; 256]);
+            assert_eq!(rounds_back(&mut one, count, counter, &SALT), number);
+            let wide = rounds_back_wide(&mut other, count, counter.into(), &SALT);
+            assert_eq!((wide, one == other), (0, number == 0));
+        }
+        for mode in MODES {
+            for family in family::of_mode(mode) {
+                let (mut one, block) = (vec![0xee; family.chaining], vec![3; family.block]);
+                let mut other = one.clone();
+                let mode = mode.number();
+                let given = compress_in(mode, &mut one, &block, counter, &SALT);
+                let wide = compress_wide(mode, &mut other, &block, counter.into(), &SALT);
+                assert_eq!((given, wide), (number, 0));
+                assert_eq!(one == other, number == 0);
+            }
+        }
+    }
+}
+
+#[test]
+fn wide_compressions_are_refused_for_no_counter() {
+    let (mut chaining, block) = ([0xee; 128], [3; 256]);
+    for counter in WIDE {
+        for (mode, a, b, salt, number) in [
+            (0, 64, 192, 0, 2),
+            (1, 63, 192, 15, 2),
+            (2, 64, 192, 17, 2),
+            (2, 64, 192, 16, 6),
+            (255, 32, 224, 16, 6),
+            (0, 32, 224, 16, 6),
+            (1, 128, 128, 16, 6),
+            (0, 64, 193, 16, 6),
+            (1, 33, 223, 16, 6),
+            (0, 0, 0, 16, 6),
+        ] {
+            let (lent, salt) = (&mut chaining[..a], &[9; 17][..salt]);
+            let refused = compress_wide(mode, lent, &block[..b], counter, salt);
+            assert_eq!(refused, number);
+            assert_eq!(chaining, [0xee; 128]);
+        }
     }
 }
 
@@ -223,9 +320,8 @@ fn compress_in_a_mode() {
             let (a, b) = (family.chaining, family.block);
             let (mut chaining, block) = (vec![0xee; a], vec![3; b]);
             let mut expected = chaining.clone();
-            compression::compress(mode, &mut expected, &block, COUNTER_LIMIT, &SALT);
-            let number = mode.number();
-            let counter = COUNTER_LIMIT;
+            let (number, counter) = (mode.number(), COUNTER_LIMIT);
+            compression::compress(mode, &mut expected, &block, counter.into(), &SALT);
             let refused = compress_in(number, &mut chaining, &block, counter, &SALT);
             assert_eq!(refused, 0);
             assert_eq!(chaining, expected);

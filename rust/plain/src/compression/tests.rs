@@ -1,4 +1,6 @@
 use super::*;
+use crate::hex;
+use crate::mode::MODES;
 
 /// Sixteen bytes that are all the same, for each of these.
 fn words(bytes: impl IntoIterator<Item = u8>) -> Vec<u8> {
@@ -6,7 +8,7 @@ fn words(bytes: impl IntoIterator<Item = u8>) -> Vec<u8> {
 }
 
 /// The finished square of sizes that are loaded, by so many rounds.
-fn finished(chaining: &[u8], block: &[u8], rounds: u64, counter: u64, salt: &Word) -> Square {
+fn finished(chaining: &[u8], block: &[u8], rounds: u64, counter: u128, salt: &Word) -> Square {
     let mut square = load(chaining, block);
     square::rounds(&mut square, rounds, counter, salt);
     square
@@ -131,6 +133,45 @@ fn one_block_in_both_modes() {
         new
     });
     assert_ne!(double, single);
+}
+
+/// All families: the rounds of a compression are those of [`square::rounds`] over
+/// the edges too, so that a counter whose upper half is left out makes another value.
+#[test]
+fn counters_of_128_bits_in_all_families() {
+    let salt = [0x3c; 16];
+    for mode in MODES {
+        for family in family::of_mode(mode) {
+            let old: Vec<u8> = (0..family.chaining).map(|i| (i * 13 + 5) as u8).collect();
+            let block: Vec<u8> = (0..family.block).map(|i| (i * 7 + 3) as u8).collect();
+            let half = 1 << 64;
+            for counter in [half - 80, half, 3 * half + 5, 0u128.wrapping_sub(80)] {
+                let end = finished(&old, &block, family.rounds, counter, &salt);
+                let (mut expected, mut given, mut cut) = (old.clone(), old.clone(), old.clone());
+                finish(&mut expected, &load(&old, &block), &end);
+                compress(mode, &mut given, &block, counter, &salt);
+                compress(mode, &mut cut, &block, counter % half, &salt);
+                assert_eq!(given, expected);
+                assert_eq!(given != cut, counter >= half);
+            }
+        }
+    }
+}
+
+/// What `examples/counters.c` prints first; the gate looks it up here.
+#[test]
+fn the_compression_of_the_example_in_c() {
+    let mut chaining: [u8; 64] = std::array::from_fn(|i| i as u8);
+    let block: [u8; 192] = std::array::from_fn(|i| 64 + i as u8);
+    compress(
+        Mode::DoublePipe,
+        &mut chaining,
+        &block,
+        (1 << 64) - 80,
+        &[0; 16],
+    );
+    let expected = "6ae7d1fc95fdf3643469d79f62f00c9a73494999500e935388b82a568be49bab68af29e500c98e76fb5f3eb84b6b29fdca6e765996ad844eb83eb867b0b7c1db";
+    assert_eq!(hex::encode(&chaining), expected);
 }
 
 #[test]

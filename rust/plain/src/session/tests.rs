@@ -265,8 +265,9 @@ fn adding_goes_on_from_a_forged_session() {
         let second = &piece[2..b + 2];
         let end = n + 2 + b as u64;
         let mut chaining = vec![0x55; 256 - b];
-        compress(mode, &mut chaining, &first, 8 * (n + 2), &SALT);
-        compress(mode, &mut chaining, second, 8 * end, &SALT);
+        let bits_so_far = |bytes: u64| u128::from(8 * bytes);
+        compress(mode, &mut chaining, &first, bits_so_far(n + 2), &SALT);
+        compress(mode, &mut chaining, second, bits_so_far(end), &SALT);
         let mut expected = Session {
             mode,
             bits,
@@ -292,7 +293,7 @@ fn by_hand(mode: Mode, bits: u64, n: u64, counters: &[u64]) -> Vec<u8> {
     bytes.extend([0; 8]);
     let mut chaining = vec![0x55; 256 - b];
     for (block, counter) in bytes.chunks(b).zip(counters) {
-        compress(mode, &mut chaining, block, *counter, &SALT);
+        compress(mode, &mut chaining, block, u128::from(*counter), &SALT);
     }
     chaining.truncate(bits as usize / 8);
     chaining

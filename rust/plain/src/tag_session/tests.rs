@@ -123,7 +123,7 @@ fn an_opening_takes_a_block_into_both_sessions() {
             let mut taken = vec![rest; b];
             taken[..5].fill(first);
             let mut chaining = initial(DoublePipe, bits);
-            compress(DoublePipe, &mut chaining, &taken, 8 * b as u64, &SALT);
+            compress(DoublePipe, &mut chaining, &taken, 8 * b as u128, &SALT);
             assert_eq!(part.chaining[..256 - b], chaining);
             assert_eq!(part.chaining[256 - b..], [0; 128][..b - 128]);
             assert_eq!((part.bits, part.salt), (bits, SALT));
@@ -326,7 +326,7 @@ fn reading_goes_on_from_a_forged_session() {
         last.extend((8 * n).to_le_bytes());
         last.extend([0; 8]);
         let mut chaining = vec![0x66; 256 - b];
-        compress(DoublePipe, &mut chaining, &last, 8 * n, &SALT);
+        compress(DoublePipe, &mut chaining, &last, (8 * n).into(), &SALT);
         assert_eq!(tag(&session), chaining[..size]);
     }
 }

@@ -33,9 +33,10 @@ pub fn double(vector: Vector) -> Vector {
     veorq_u8(vshlq_n_u8::<1>(vector), vandq_u8(top_set, vdupq_n_u8(0x1b)))
 }
 
-/// The counter as eight bytes, least significant first, and eight zeros.
+/// The counter as sixteen bytes, least significant first: its lower half, and then
+/// its upper one.
 #[inline]
 #[target_feature(enable = "aes")]
-pub fn counter_key(counter: u64) -> Vector {
-    vreinterpretq_u8_u64(vcombine_u64(vcreate_u64(counter), vcreate_u64(0)))
+pub fn counter_key(low: u64, high: u64) -> Vector {
+    vreinterpretq_u8_u64(vcombine_u64(vcreate_u64(low), vcreate_u64(high)))
 }

@@ -36,9 +36,10 @@ pub fn double(vector: Vector) -> Vector {
     )
 }
 
-/// The counter as eight bytes, least significant first, and eight zeros.
+/// The counter as sixteen bytes, least significant first: its lower half, and then
+/// its upper one.
 #[inline]
 #[target_feature(enable = "aes")]
-pub fn counter_key(counter: u64) -> Vector {
-    _mm_set_epi64x(0, counter as i64)
+pub fn counter_key(low: u64, high: u64) -> Vector {
+    _mm_set_epi64x(high as i64, low as i64)
 }

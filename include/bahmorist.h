@@ -4,6 +4,9 @@
  * the digest. Single-pipe, section 5 of the paper, halves the chaining value and takes longer blocks instead, for less state and less time.
  * Functions that take no mode are double-pipe.
  *
+ * Rounds and compression start at a counter. Functions that take it in 64 bits refuse those near the end of them; those that end in _wide take it in
+ * 128 bits, as two halves, and refuse none.
+ *
  * Link target/staticlib/libbahmorist.a, which `rt staticlib bahmorist` makes for x86-64 Linux; `tools/library` makes
  * target/native/libbahmorist.a for the machine at hand. The library keeps nothing between calls, allocates nothing and may be called from
  * several threads at once. As it is compiled today no call takes more than 8,500 bytes of stack, and those that make and check tags no more
@@ -28,8 +31,8 @@
 #include <stddef.h>
 #include <stdint.h>
 
-#define BAHMORIST_VERSION "0.5.0"
-#define BAHMORIST_VERSION_NUMBER 500 /* 10,000 times the first part, 100 times the second and the third, added up */
+#define BAHMORIST_VERSION "0.6.0"
+#define BAHMORIST_VERSION_NUMBER 600 /* 10,000 times the first part, 100 times the second and the third, added up */
 
 #define BAHMORIST_SALT_BYTES 16
 #define BAHMORIST_SQUARE_BYTES 256
@@ -47,7 +50,8 @@ enum bahmorist_refusal {
     BAHMORIST_REFUSED_SHAPE = 6,         /* the mode is neither 0 nor 1; chaining and block sizes are not the mode's: 64 and 192 or 128 and 128
                                             in double-pipe, 32 and 224 or 64 and 192 in single-pipe; the square is not 256 bytes; the round
                                             count is not 8 or 10 */
-    BAHMORIST_REFUSED_COUNTER = 7,       /* the starting counter is above 2^64 - 161 */
+    BAHMORIST_REFUSED_COUNTER = 7,       /* the starting counter is above 2^64 - 161; from functions alone that take it in 64 bits, never from those
+                                            that end in _wide */
     BAHMORIST_REFUSED_TABLE = 8,         /* the table is over 4,096 bytes */
     BAHMORIST_REFUSED_KIND = 9,          /* unknown kind byte in the table */
     BAHMORIST_REFUSED_CUT_SHORT = 10     /* record of the table cut short */
@@ -104,6 +108,16 @@ BAHMORIST_LOOK_AT uint8_t bahmorist_rounds(uint8_t *square, size_t square_len, u
 BAHMORIST_LOOK_AT uint8_t bahmorist_rounds_back(uint8_t *square, size_t square_len, uint64_t rounds, uint64_t counter, const uint8_t *salt,
                                                 size_t salt_len);
 
+/* Like bahmorist_rounds, with an inner counter of 128 bits that starts at high * 2^64 + low: the first key is all sixteen bytes of it, the least
+ * significant one first, and counting past the lower half goes over into the upper, modulo 2^128 (section 3.1 of the paper). Where high is 0 and
+ * bahmorist_rounds does not refuse low, both give the same. Refuses by 2 or 6. */
+BAHMORIST_LOOK_AT uint8_t bahmorist_rounds_wide(uint8_t *square, size_t square_len, uint64_t rounds, uint64_t low, uint64_t high,
+                                                const uint8_t *salt, size_t salt_len);
+
+/* Undoes bahmorist_rounds_wide with the same rounds, low, high and salt. Refuses by 2 or 6. */
+BAHMORIST_LOOK_AT uint8_t bahmorist_rounds_back_wide(uint8_t *square, size_t square_len, uint64_t rounds, uint64_t low, uint64_t high,
+                                                     const uint8_t *salt, size_t salt_len);
+
 /* Rewrites the chaining value to the one after this block, with 8 rounds where it is 64 bytes and 10 where it is 128. Refuses by 2, 6 or
  * 7. */
 BAHMORIST_LOOK_AT uint8_t bahmorist_compress(uint8_t *chaining, size_t chaining_len, const uint8_t *block, size_t block_len, uint64_t counter,
@@ -113,6 +127,11 @@ BAHMORIST_LOOK_AT uint8_t bahmorist_compress(uint8_t *chaining, size_t chaining_
  * value is 32 bytes and 10 where it is 64. Refuses by 2, 6 or 7. */
 BAHMORIST_LOOK_AT uint8_t bahmorist_compress_in(uint8_t mode, uint8_t *chaining, size_t chaining_len, const uint8_t *block, size_t block_len,
                                                 uint64_t counter, const uint8_t *salt, size_t salt_len);
+
+/* Like bahmorist_compress_in, with an inner counter of 128 bits that starts at high * 2^64 + low, as in bahmorist_rounds_wide. Where high is 0 and
+ * bahmorist_compress_in does not refuse low, both give the same. Refuses by 2 or 6. */
+BAHMORIST_LOOK_AT uint8_t bahmorist_compress_wide(uint8_t mode, uint8_t *chaining, size_t chaining_len, const uint8_t *block, size_t block_len,
+                                                  uint64_t low, uint64_t high, const uint8_t *salt, size_t salt_len);
 
 /* Puts the fingerprint of a steering table, 32 bytes, at the front of out; bytes behind it stay. It is the 256-bit digest of the whole table,
  * kind bytes included. Refuses by 2, 5, 8, 9 or 10. place, which is not NULL, gets the place of the record's kind byte with 9 and 10, and

@@ -83,6 +83,26 @@ extern "C" {
         salt_len: usize,
     ) -> u8;
 
+    pub fn bahmorist_rounds_wide(
+        square: *mut u8,
+        square_len: usize,
+        rounds: u64,
+        low: u64,
+        high: u64,
+        salt: *const u8,
+        salt_len: usize,
+    ) -> u8;
+
+    pub fn bahmorist_rounds_back_wide(
+        square: *mut u8,
+        square_len: usize,
+        rounds: u64,
+        low: u64,
+        high: u64,
+        salt: *const u8,
+        salt_len: usize,
+    ) -> u8;
+
     pub fn bahmorist_compress(
         chaining: *mut u8,
         chaining_len: usize,
@@ -100,6 +120,18 @@ extern "C" {
         block: *const u8,
         block_len: usize,
         counter: u64,
+        salt: *const u8,
+        salt_len: usize,
+    ) -> u8;
+
+    pub fn bahmorist_compress_wide(
+        mode: u8,
+        chaining: *mut u8,
+        chaining_len: usize,
+        block: *const u8,
+        block_len: usize,
+        low: u64,
+        high: u64,
         salt: *const u8,
         salt_len: usize,
     ) -> u8;

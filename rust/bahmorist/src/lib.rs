@@ -310,6 +310,100 @@ pub fn rounds_back(
     })
 }
 
+/// Rewrites a square like [`rounds`], whose inner counter has 128 bits: the first
+/// key is all sixteen bytes of it, and behind 2^128 - 1 comes 0. Where [`rounds`]
+/// takes the counter both give the same. Refuses by 2 or 6.
+///
+/// A counter that goes over from the lower half into the upper on the way, and one
+/// that goes over to 0:
+///
+/// ```
+/// use bahmorist::{rounds, rounds_back_wide, rounds_wide, Refusal};
+///
+/// let (start, salt) = ([7; 256], [0; 16]);
+/// for counter in [(1 << 64) - 80, u128::MAX - 79] {
+///     let mut square = start;
+///     rounds_wide(&mut square, 10, counter, &salt)?;
+///     assert_ne!(square, start);
+///     rounds_back_wide(&mut square, 10, counter, &salt)?;
+///     assert_eq!(square, start);
+/// }
+///
+/// // In 64 bits there is no such counter.
+/// let mut square = start;
+/// let refused = rounds(&mut square, 10, u64::MAX - 79, &salt);
+/// assert_eq!(refused, Err(Refusal::Counter));
+/// # Ok::<(), Refusal>(())
+/// ```
+///
+/// What both take:
+///
+/// ```
+/// use bahmorist::{rounds, rounds_wide, Refusal};
+///
+/// let (mut one, mut other, salt) = ([7; 256], [7; 256], [0; 16]);
+/// rounds(&mut one, 8, 1536, &salt)?;
+/// rounds_wide(&mut other, 8, 1536, &salt)?;
+/// assert_eq!(one, other);
+///
+/// let refused = rounds_wide(&mut other, 9, u128::MAX, &salt);
+/// assert_eq!(refused, Err(Refusal::Shape));
+/// assert_eq!(one, other);
+/// # Ok::<(), Refusal>(())
+/// ```
+pub fn rounds_wide(
+    square: &mut [u8],
+    rounds: u64,
+    counter: u128,
+    salt: &[u8],
+) -> Result<(), Refusal> {
+    let (low, high) = halves(counter);
+    // SAFETY: each pointer comes with its slice's length; see `face`.
+    answer(unsafe {
+        face::bahmorist_rounds_wide(
+            square.as_mut_ptr(),
+            square.len(),
+            rounds,
+            low,
+            high,
+            salt.as_ptr(),
+            salt.len(),
+        )
+    })
+}
+
+/// Undoes [`rounds_wide`] with the same round count, counter and salt. Refuses by 2
+/// or 6.
+///
+/// ```
+/// let (end, salt) = ([0xa5; 256], [3; 16]);
+/// let mut square = end;
+/// bahmorist::rounds_back_wide(&mut square, 8, 5 << 64, &salt)?;
+/// bahmorist::rounds_wide(&mut square, 8, 5 << 64, &salt)?;
+/// assert_eq!(square, end);
+/// # Ok::<(), bahmorist::Refusal>(())
+/// ```
+pub fn rounds_back_wide(
+    square: &mut [u8],
+    rounds: u64,
+    counter: u128,
+    salt: &[u8],
+) -> Result<(), Refusal> {
+    let (low, high) = halves(counter);
+    // SAFETY: each pointer comes with its slice's length; see `face`.
+    answer(unsafe {
+        face::bahmorist_rounds_back_wide(
+            square.as_mut_ptr(),
+            square.len(),
+            rounds,
+            low,
+            high,
+            salt.as_ptr(),
+            salt.len(),
+        )
+    })
+}
+
 /// Rewrites a chaining value to the one after this block, in double-pipe: 64 bytes
 /// and a block of 192 with 8 rounds, or 128 bytes and a block of 128 with 10.
 /// Refuses by 2, 6 or 7.
@@ -402,6 +496,54 @@ pub fn compress_in(
     })
 }
 
+/// Rewrites a chaining value like [`compress_in`], with an inner counter of 128 bits
+/// as in [`rounds_wide`]. Where [`compress_in`] takes the counter both give the same.
+/// Refuses by 2 or 6.
+///
+/// ```
+/// use bahmorist::{compress_in, compress_wide, Mode, Refusal};
+///
+/// let (start, block, salt) = ([7; 64], [1; 192], [0; 16]);
+/// let (mut one, mut other) = (start, start);
+/// compress_in(Mode::DoublePipe, &mut one, &block, 1536, &salt)?;
+/// compress_wide(Mode::DoublePipe, &mut other, &block, 1536, &salt)?;
+/// assert_eq!(one, other);
+///
+/// // Too high for 64 bits, and then all of 128.
+/// let refused = compress_in(Mode::DoublePipe, &mut one, &block, u64::MAX, &salt);
+/// assert_eq!(refused, Err(Refusal::Counter));
+/// compress_wide(Mode::DoublePipe, &mut one, &block, u64::MAX.into(), &salt)?;
+/// compress_wide(Mode::DoublePipe, &mut other, &block, u128::MAX, &salt)?;
+/// assert_ne!(one, other);
+///
+/// let refused = compress_wide(Mode::SinglePipe, &mut one[..32], &block, 0, &salt);
+/// assert_eq!(refused, Err(Refusal::Shape));
+/// # Ok::<(), Refusal>(())
+/// ```
+pub fn compress_wide(
+    mode: Mode,
+    chaining: &mut [u8],
+    block: &[u8],
+    counter: u128,
+    salt: &[u8],
+) -> Result<(), Refusal> {
+    let (low, high) = halves(counter);
+    // SAFETY: each pointer comes with its slice's length; see `face`.
+    answer(unsafe {
+        face::bahmorist_compress_wide(
+            mode.number(),
+            chaining.as_mut_ptr(),
+            chaining.len(),
+            block.as_ptr(),
+            block.len(),
+            low,
+            high,
+            salt.as_ptr(),
+            salt.len(),
+        )
+    })
+}
+
 /// Puts the fingerprint of a steering table, 32 bytes, at the front of `out`;
 /// bytes behind it stay. It is the 256-bit digest of the whole table, kind bytes
 /// included, in double-pipe. Refuses by 2, 5, 8, 9 or 10.
@@ -442,6 +584,11 @@ pub fn fingerprint(salt: &[u8], table: &[u8], out: &mut [u8]) -> Result<(), Refu
         )
     })
     .map_err(|refusal| RefusedTable { refusal, place })
+}
+
+/// The halves of a counter, the lower one first.
+fn halves(counter: u128) -> (u64, u64) {
+    (counter as u64, (counter >> 64) as u64)
 }
 
 /// What a number says: 0 is done, and the library gives none above 10.

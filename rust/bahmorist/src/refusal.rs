@@ -33,7 +33,8 @@ pub enum Refusal {
     /// square is not 256 bytes; or the round count is not 8 or 10. The C functions
     /// give it for a mode other than 0 and 1 too.
     Shape = 6,
-    /// The starting counter is above 2^64 - 161.
+    /// The starting counter is above 2^64 - 161. The functions that take it in 128
+    /// bits never give this.
     Counter = 7,
     /// The table is over 4,096 bytes.
     Table = 8,

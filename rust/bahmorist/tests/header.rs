@@ -3,6 +3,7 @@
 use bahmorist::{Mode, Refusal};
 
 const HEADER: &str = include_str!("../../../include/bahmorist.h");
+const FACE: &str = include_str!("../src/face.rs");
 
 /// The numbers that the header gives to names with this beginning.
 fn numbers(beginning: &str) -> Vec<(&'static str, u8)> {
@@ -15,6 +16,40 @@ fn numbers(beginning: &str) -> Vec<(&'static str, u8)> {
             (name, digits.unwrap_or("").parse().expect("a number"))
         })
         .collect()
+}
+
+/// The functions that a text declares behind these words, each with the names of its
+/// parameters, by their names.
+fn functions(
+    text: &'static str,
+    before: &str,
+    name: fn(&'static str) -> &'static str,
+) -> Vec<(&'static str, Vec<&'static str>)> {
+    let declared = text.split(before).skip(1).map(|behind| {
+        let (function, behind) = behind.split_once('(').expect("parameters");
+        let (parameters, _) = behind.split_once(')').expect("their end");
+        let parameters = parameters.split(',').map(str::trim);
+        let parameters = parameters.filter(|parameter| !parameter.is_empty());
+        (function, parameters.map(name).collect())
+    });
+    let mut declared: Vec<_> = declared.collect();
+    declared.sort();
+    declared
+}
+
+/// Two numbers of one type that change places would be seen by no compiler.
+#[test]
+fn each_function_has_its_parameters_in_the_order_of_the_header() {
+    let in_c = functions(HEADER, "uint8_t bahmorist_", |parameter| {
+        let end = parameter.rsplit([' ', '*']).next();
+        end.expect("a name behind the type")
+    });
+    let in_rust = functions(FACE, "fn bahmorist_", |parameter| {
+        let (name, _) = parameter.split_once(':').expect("a type behind the name");
+        name
+    });
+    assert_eq!(in_c, in_rust);
+    assert_eq!(in_c.len(), 12);
 }
 
 #[test]

@@ -1,11 +1,12 @@
 //! Cases of the program `echo_cases`: rounds forward and backward, and
-//! compression in both modes, done and refused.
+//! compression in both modes, from counters of 64 bits and of 128, done and refused.
 
 mod record;
 mod refused;
 mod single_pipe;
 #[cfg(test)]
 mod tests;
+mod wide;
 
 use crate::file::File;
 use plain::mode::Mode::{self, DoublePipe, SinglePipe};
@@ -38,6 +39,7 @@ fn cases() -> Vec<Case> {
     cases.extend(refused::cases(&mut generator));
     cases.extend(by_bytes(&cases));
     cases.extend(single_pipe::cases(&mut Generator::new(8)));
+    cases.extend(wide::cases(&mut Generator::new(11), &cases));
     cases
 }
 

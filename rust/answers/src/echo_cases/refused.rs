@@ -8,7 +8,7 @@ const KINDS: [Kind; 3] = [Kind::Rounds, Kind::RoundsBack, Kind::Compress];
 
 /// Sizes of chaining value and block that belong to no family, some of them
 /// filling the square all the same.
-const SIZES: [(u16, u16); 9] = [
+pub const SIZES: [(u16, u16); 9] = [
     (64, 128),
     (64, 191),
     (64, 193),

@@ -9,7 +9,7 @@ use seeded::Generator;
 /// Sizes of chaining value and block that single-pipe does not have: those of
 /// double-pipe, mixed ones, and those that are one byte off, some of them filling
 /// the square all the same.
-const SIZES: [(u16, u16); 23] = [
+pub const SIZES: [(u16, u16); 23] = [
     (128, 128),
     (64, 128),
     (128, 192),
@@ -36,7 +36,7 @@ const SIZES: [(u16, u16); 23] = [
 ];
 
 /// Sizes that double-pipe does not have, and single-pipe does or nearly does.
-const DOUBLE_PIPE: [(u16, u16); 3] = [(32, 224), (32, 192), (64, 224)];
+pub const DOUBLE_PIPE: [(u16, u16); 3] = [(32, 224), (32, 192), (64, 224)];
 
 pub fn cases(generator: &mut Generator) -> Vec<Case> {
     let counters = counters(generator);

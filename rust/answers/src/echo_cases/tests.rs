@@ -1,12 +1,21 @@
-use super::record::RECORD;
+mod wide;
+
+use super::record::{RECORD, UPPER_HALF};
 use super::*;
+
+/// The cases from counters of 64 bits, and those from wide ones.
+fn by_width() -> (Vec<Case>, Vec<Case>) {
+    let cases = cases().into_iter();
+    cases.partition(|case| !case.kind.is_wide())
+}
 
 #[test]
 fn records_and_lines_have_their_sizes() {
     let cases = cases();
-    assert!(cases.len() <= 240);
+    assert!(cases.len() <= 940);
     for case in &cases {
-        assert_eq!(case.record().len(), RECORD);
+        let upper = if case.kind.is_wide() { UPPER_HALF } else { 0 };
+        assert_eq!(case.record().len(), RECORD + upper);
         assert!(case.salt_length <= 18 && case.a_length <= 272 && case.b_length <= 240);
         assert_eq!(case.line().len(), 2 + 2 * 272 + 1);
     }
@@ -14,7 +23,7 @@ fn records_and_lines_have_their_sizes() {
 
 /// The cases that were there before single-pipe.
 fn double_pipe() -> Vec<Case> {
-    let mut cases = cases();
+    let (mut cases, _) = by_width();
     let single = single_pipe::cases(&mut Generator::new(8)).len();
     cases.truncate(cases.len() - single);
     cases
@@ -131,8 +140,10 @@ fn empty_messages_begin_with_the_published_digests() {
 
 #[test]
 fn the_files_hold_every_case() {
-    let count = cases().len();
+    let (cases, wide) = by_width();
+    let count = cases.len() + wide.len();
     let files = files();
-    assert_eq!(files[0].bytes.len(), count * RECORD);
+    let bytes = count * RECORD + wide.len() * UPPER_HALF;
+    assert_eq!(files[0].bytes.len(), bytes);
     assert_eq!(files[1].lines(), count);
 }

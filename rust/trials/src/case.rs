@@ -25,6 +25,12 @@ pub enum Routine {
     Compress { counter: u64 },
     /// The same in the mode of a number.
     CompressIn { mode: u8, counter: u64 },
+    /// Rounds forward from a counter of 128 bits.
+    RoundsWide { count: u64, counter: u128 },
+    /// Rounds backward, likewise.
+    RoundsBackWide { count: u64, counter: u128 },
+    /// A block taken into a chaining value in the mode of a number, likewise.
+    CompressWide { mode: u8, counter: u128 },
     /// The fingerprint of a table.
     Fingerprint,
 }
@@ -113,9 +119,12 @@ impl Case {
             Routine::HmacCheck { .. } => ("check", "message", "tag"),
             Routine::Rounds { .. } => ("rounds", "", "square"),
             Routine::RoundsBack { .. } => ("rounds backward", "", "square"),
+            Routine::RoundsWide { .. } => ("wide rounds", "", "square"),
+            Routine::RoundsBackWide { .. } => ("wide rounds backward", "", "square"),
             Routine::Compress { .. } | Routine::CompressIn { .. } => {
                 ("compression", "block", "chaining value")
             }
+            Routine::CompressWide { .. } => ("wide compression", "block", "chaining value"),
             Routine::Fingerprint => ("fingerprint", "table", "room"),
         }
     }
@@ -148,6 +157,12 @@ impl Display for Case {
             Routine::Compress { counter } => write!(to, "counter {counter}, ")?,
             Routine::CompressIn { mode, counter } => {
                 write!(to, "mode {mode}, counter {counter}, ")?
+            }
+            Routine::RoundsWide { count, counter } | Routine::RoundsBackWide { count, counter } => {
+                write!(to, "{count} of them, counter {counter:#x}, ")?
+            }
+            Routine::CompressWide { mode, counter } => {
+                write!(to, "mode {mode}, counter {counter:#x}, ")?
             }
             Routine::Fingerprint => {}
         }

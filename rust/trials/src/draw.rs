@@ -27,6 +27,16 @@ pub const COUNTERS: [u64; 18] = [
     HIGHEST_COUNTER,
 ];
 
+/// Where a counter of 128 bits goes over into its upper half.
+pub const EDGE: u128 = 1 << 64;
+
+/// Starts around 2^64, and the last ones below 2^128: the 160 words of ten rounds go
+/// over into the upper half, and to 0, at each word once.
+pub fn wide_starts() -> impl Iterator<Item = u128> {
+    let last = u128::MAX - 159..=u128::MAX;
+    (EDGE - 160..=EDGE + 160).chain(last)
+}
+
 /// Every admitted digest length.
 pub fn digest_lengths() -> impl Iterator<Item = u64> {
     (128..=512).step_by(8)
@@ -66,6 +76,12 @@ pub fn compressions(counter: u64) -> [(Routine, usize); 6] {
     ]
 }
 
+/// The same from a counter of 128 bits.
+pub fn wide_compressions(counter: u128) -> [(Routine, usize); 4] {
+    let [double, single] = [0, 1].map(|mode| Routine::CompressWide { mode, counter });
+    [(double, 4), (double, 8), (single, 2), (single, 4)]
+}
+
 /// Lengths of a key: none, one byte, both sides of a block, and several blocks.
 pub fn keys(bits: u64) -> [usize; 6] {
     let block = block(bits);
@@ -84,6 +100,17 @@ pub fn salt(generator: &mut Generator) -> Vec<u8> {
 pub fn counter(generator: &mut Generator) -> u64 {
     let shift = generator.below(64);
     (generator.number() >> shift).min(HIGHEST_COUNTER)
+}
+
+/// A starting counter of 128 bits and of any size, which goes over into the upper
+/// half within a run one time in four.
+pub fn wide_counter(generator: &mut Generator) -> u128 {
+    let shift = generator.below(128);
+    let counter = u128::from_le_bytes(generator.bytes()) >> shift;
+    match generator.below(4) {
+        0 => (counter | (EDGE - 1)) - u128::from(generator.below(160)),
+        _ => counter,
+    }
 }
 
 /// A digest into a room that is filled, and just large enough one time in two.

@@ -41,13 +41,17 @@ pub fn refusals(case: &Case) -> Vec<(u8, u64)> {
             holding([bad_salt, (6, !shape), (7, counter > HIGHEST_COUNTER)])
         }
         Routine::CompressIn { mode, counter } => {
-            let sizes: &[(usize, usize)] = match mode {
-                0 => &[(64, 192), (128, 128)],
-                1 => &[(32, 224), (64, 192)],
-                _ => &[],
-            };
-            let shape = sizes.contains(&(lent, input));
+            let shape = fits(mode, lent, input);
             holding([bad_salt, (6, !shape), (7, counter > HIGHEST_COUNTER)])
+        }
+        // Of 128 bits every counter is admitted.
+        Routine::RoundsWide { count, .. } | Routine::RoundsBackWide { count, .. } => {
+            let shape = lent == 256 && (count == 8 || count == 10);
+            holding([bad_salt, (6, !shape)])
+        }
+        Routine::CompressWide { mode, .. } => {
+            let shape = fits(mode, lent, input);
+            holding([bad_salt, (6, !shape)])
         }
         Routine::Fingerprint => {
             let mut refusals = holding([bad_salt, (5, lent < 32), (8, input > 4096)]);
@@ -59,6 +63,16 @@ pub fn refusals(case: &Case) -> Vec<(u8, u64)> {
 
 fn admitted(bits: u64) -> bool {
     (128..=512).contains(&bits) && bits.is_multiple_of(8)
+}
+
+/// Whether chaining value and block have sizes of a mode.
+fn fits(mode: u8, chaining: usize, block: usize) -> bool {
+    let sizes: &[(usize, usize)] = match mode {
+        0 => &[(64, 192), (128, 128)],
+        1 => &[(32, 224), (64, 192)],
+        _ => &[],
+    };
+    sizes.contains(&(chaining, block))
 }
 
 /// The numbers whose conditions hold, at no place.

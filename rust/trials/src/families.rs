@@ -2,12 +2,14 @@
 
 pub mod block_edges;
 pub mod both_paths;
+pub mod both_widths;
 pub mod checks;
 pub mod compressions;
 pub mod descriptors;
 pub mod echosum_words;
 pub mod every_length;
 pub mod null_pointers;
+pub mod program_counters;
 pub mod program_pieces;
 pub mod program_tables;
 pub mod random_messages;
@@ -19,10 +21,12 @@ pub mod table_words;
 pub mod tables;
 pub mod tags;
 pub mod there_and_back;
+pub mod wide_compressions;
+pub mod wide_rounds;
 
 use crate::family::Family;
 
-pub const ALL: [Family; 19] = [
+pub const ALL: [Family; 23] = [
     block_edges::FAMILY,
     every_length::FAMILY,
     random_messages::FAMILY,
@@ -32,10 +36,14 @@ pub const ALL: [Family; 19] = [
     rounds_backward::FAMILY,
     there_and_back::FAMILY,
     compressions::FAMILY,
+    wide_rounds::FAMILY,
+    wide_compressions::FAMILY,
+    both_widths::FAMILY,
     refusals::FAMILY,
     null_pointers::FAMILY,
     tables::FAMILY,
     both_paths::FAMILY,
+    program_counters::FAMILY,
     program_tables::FAMILY,
     program_pieces::FAMILY,
     echosum_words::FAMILY,

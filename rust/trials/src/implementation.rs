@@ -1,4 +1,4 @@
-//! An implementation under trial: its nine routines, as functions on slices.
+//! An implementation under trial: its twelve routines, as functions on slices.
 
 use crate::case::Routine;
 use plain::checked;
@@ -19,6 +19,11 @@ pub struct Implementation {
     /// By chaining value, block, counter and salt.
     pub compress: fn(&mut [u8], &[u8], u64, &[u8]) -> u8,
     pub compress_in: CompressIn,
+    /// By square, round count, starting counter and salt.
+    pub rounds_wide: fn(&mut [u8], u64, u128, &[u8]) -> u8,
+    /// Like `rounds_wide`.
+    pub rounds_back_wide: fn(&mut [u8], u64, u128, &[u8]) -> u8,
+    pub compress_wide: CompressWide,
     /// By salt, table and output room.
     pub fingerprint: fn(&[u8], &[u8], &mut [u8]) -> Placed,
 }
@@ -28,6 +33,9 @@ pub type DigestIn = fn(u8, u64, &[u8], &[u8], &mut [u8]) -> u8;
 
 /// By the number of the mode, and what a compression without one goes by.
 pub type CompressIn = fn(u8, &mut [u8], &[u8], u64, &[u8]) -> u8;
+
+/// By the number of the mode, chaining value, block, counter and salt.
+pub type CompressWide = fn(u8, &mut [u8], &[u8], u128, &[u8]) -> u8;
 
 /// By digest length, salt, key, message and output room.
 pub type Hmac = fn(u64, &[u8], &[u8], &[u8], &mut [u8]) -> u8;
@@ -56,7 +64,7 @@ pub struct Answer {
     pub yes: u8,
 }
 
-/// The proved library. Its two routines in a mode take the numbers of a mode alone,
+/// The proved library. Its three routines in a mode take the numbers of a mode alone,
 /// since Rust's functions take an enum; the C functions are tried with all numbers.
 pub const LIBRARY: Implementation = Implementation {
     digest: |bits, salt, message, out| number(bahmorist::digest(bits, salt, message, out)),
@@ -80,6 +88,18 @@ pub const LIBRARY: Implementation = Implementation {
         let mode = in_rust(mode);
         number(bahmorist::compress_in(mode, chaining, block, counter, salt))
     },
+    rounds_wide: |square, count, counter, salt| {
+        number(bahmorist::rounds_wide(square, count, counter, salt))
+    },
+    rounds_back_wide: |square, count, counter, salt| {
+        number(bahmorist::rounds_back_wide(square, count, counter, salt))
+    },
+    compress_wide: |mode, chaining, block, counter, salt| {
+        let mode = in_rust(mode);
+        number(bahmorist::compress_wide(
+            mode, chaining, block, counter, salt,
+        ))
+    },
     fingerprint: |salt, table, out| match bahmorist::fingerprint(salt, table, out) {
         Ok(()) => (0, 0),
         Err(refused) => (refused.refusal.number(), refused.place),
@@ -99,6 +119,9 @@ pub const PLAIN: Implementation = Implementation {
     rounds_back: checked::rounds_back,
     compress: checked::compress,
     compress_in: checked::compress_in,
+    rounds_wide: checked::rounds_wide,
+    rounds_back_wide: checked::rounds_back_wide,
+    compress_wide: checked::compress_wide,
     fingerprint: checked::fingerprint,
 };
 
@@ -143,6 +166,15 @@ impl Implementation {
             Routine::Compress { counter } => alone((self.compress)(lent, input, counter, salt)),
             Routine::CompressIn { mode, counter } => {
                 alone((self.compress_in)(mode, lent, input, counter, salt))
+            }
+            Routine::RoundsWide { count, counter } => {
+                alone((self.rounds_wide)(lent, count, counter, salt))
+            }
+            Routine::RoundsBackWide { count, counter } => {
+                alone((self.rounds_back_wide)(lent, count, counter, salt))
+            }
+            Routine::CompressWide { mode, counter } => {
+                alone((self.compress_wide)(mode, lent, input, counter, salt))
             }
             Routine::Fingerprint => {
                 let (number, place) = (self.fingerprint)(salt, input, lent);

@@ -64,17 +64,44 @@ fn third(case: &Case) -> Option<Outcome> {
             third.yes = (tag == case.lent).into();
         }
         Routine::Rounds { count, counter } => {
-            let square = third.lent.as_mut_slice().try_into().ok()?;
-            if !third::rounds(square, count, counter.into(), salt) {
-                return None;
-            }
+            rounds(&mut third.lent, count, counter.into(), salt)?;
         }
-        Routine::RoundsBack { .. }
-        | Routine::Compress { .. }
-        | Routine::CompressIn { .. }
-        | Routine::Fingerprint => return None,
+        Routine::RoundsWide { count, counter } => {
+            rounds(&mut third.lent, count, counter, salt)?;
+        }
+        Routine::Compress { counter } => {
+            compress(0, &mut third.lent, &case.input, counter.into(), salt)?;
+        }
+        Routine::CompressIn { mode, counter } => {
+            compress(mode, &mut third.lent, &case.input, counter.into(), salt)?;
+        }
+        Routine::CompressWide { mode, counter } => {
+            compress(mode, &mut third.lent, &case.input, counter, salt)?;
+        }
+        Routine::RoundsBack { .. } | Routine::RoundsBackWide { .. } | Routine::Fingerprint => {
+            return None
+        }
     }
     Some(third)
+}
+
+/// Rounds by the instruction; none where there is no such instruction.
+fn rounds(square: &mut [u8], count: u64, counter: u128, salt: &third::Word) -> Option<()> {
+    let square = square.try_into().ok()?;
+    third::rounds(square, count, counter, salt).then_some(())
+}
+
+/// A compression by the instruction in the mode of a number; none where there is no
+/// such instruction.
+fn compress(
+    mode: u8,
+    chaining: &mut [u8],
+    block: &[u8],
+    counter: u128,
+    salt: &third::Word,
+) -> Option<()> {
+    let mode = if mode == 0 { DoublePipe } else { SinglePipe };
+    third::compress(mode, chaining, block, counter, salt).then_some(())
 }
 
 #[cfg(test)]
@@ -127,6 +154,44 @@ mod tests {
                     assert_eq!(third, outcome);
                 }
             }
+        }
+    }
+
+    /// Rounds and compressions from both widths of a counter, by `third` too where
+    /// there is one.
+    #[test]
+    fn the_outcome_from_a_counter() {
+        let (mode, count) = (1, 8);
+        for (narrow, wide, input, lent) in [
+            (
+                Routine::Rounds { count, counter: 9 },
+                Routine::RoundsWide { count, counter: 9 },
+                0,
+                256,
+            ),
+            (
+                Routine::CompressIn { mode, counter: 9 },
+                Routine::CompressWide { mode, counter: 9 },
+                224,
+                32,
+            ),
+        ] {
+            let [narrow, wide] = [narrow, wide].map(|routine| {
+                let case = Case {
+                    routine,
+                    salt: vec![7; 16],
+                    key: vec![],
+                    input: vec![3; input],
+                    lent: vec![0xee; lent],
+                };
+                let outcome = outcome(&case).unwrap();
+                assert_ne!(outcome.lent, case.lent);
+                if let Some(third) = third(&case) {
+                    assert_eq!(third, outcome);
+                }
+                outcome
+            });
+            assert_eq!(narrow, wide);
         }
     }
 

@@ -45,6 +45,24 @@ fn a_case_in_a_mode_shows_its_number() {
 }
 
 #[test]
+fn a_wide_counter_is_shown_in_hex() {
+    let mut case = case();
+    let (count, counter) = (8, (1 << 64) - 1);
+    case.routine = Routine::RoundsWide { count, counter };
+    let shown = case.to_string();
+    let begin = "wide rounds, 8 of them, counter 0xffffffffffffffff, ";
+    assert!(shown.starts_with(begin), "{shown}");
+    case.routine = Routine::RoundsBackWide { count, counter };
+    let shown = case.to_string();
+    assert!(shown.starts_with("wide rounds backward, 8 of them, counter 0xff"));
+    let (mode, counter) = (1, 1 << 64);
+    case.routine = Routine::CompressWide { mode, counter };
+    let shown = case.to_string();
+    let begin = "wide compression, mode 1, counter 0x10000000000000000, ";
+    assert!(shown.starts_with(begin), "{shown}");
+}
+
+#[test]
 fn a_tag_and_a_check_show_their_key() {
     let mut case = case();
     case.key = vec![0xc3; 2];

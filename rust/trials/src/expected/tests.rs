@@ -132,6 +132,44 @@ fn compressions_in_a_mode() {
     }
 }
 
+/// No counter is refused where it has 128 bits.
+#[test]
+fn from_wide_counters() {
+    for counter in [0, u64::MAX.into(), 1 << 64, u128::MAX] {
+        for (square, count, salt, number) in [
+            (256, 8, 16, 0),
+            (256, 10, 16, 0),
+            (255, 10, 16, 6),
+            (256, 9, 16, 6),
+            (256, 8, 17, 2),
+            (0, 0, 0, 2),
+        ] {
+            for routine in [
+                Routine::RoundsWide { count, counter },
+                Routine::RoundsBackWide { count, counter },
+            ] {
+                let case = case(routine, salt, b"", square);
+                assert_eq!(answer(&case), (number, 0), "{case}");
+            }
+        }
+        for (mode, chaining, block, salt, number) in [
+            (0, 64, 192, 16, 0),
+            (0, 128, 128, 16, 0),
+            (1, 32, 224, 16, 0),
+            (1, 64, 192, 16, 0),
+            (0, 32, 224, 16, 6),
+            (1, 128, 128, 16, 6),
+            (2, 64, 192, 16, 6),
+            (255, 64, 192, 15, 2),
+            (0, 64, 192, 15, 2),
+        ] {
+            let routine = Routine::CompressWide { mode, counter };
+            let case = case(routine, salt, &vec![0; block], chaining);
+            assert_eq!(answer(&case), (number, 0), "{case}");
+        }
+    }
+}
+
 #[test]
 fn fingerprints() {
     let long = [2; 4097];

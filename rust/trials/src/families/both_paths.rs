@@ -1,11 +1,12 @@
 //! Rounds forward through both paths of the library, by the program `echo_cases`:
 //! by tables, which the C face takes too, and byte by byte, which it does not.
 
-use crate::case::{Case, Routine};
+use crate::case::{Case, Outcome, Routine};
 use crate::draw;
 use crate::family::{Family, Run};
+use crate::implementation::PLAIN;
 use crate::program::{at_once, Job};
-use plain::{checked, hex};
+use plain::hex;
 
 pub const FAMILY: Family = Family {
     name: "rounds through both paths",
@@ -16,7 +17,7 @@ const USUAL: usize = 400;
 
 /// How many cases a run of the program takes: what it prints for them is less
 /// than a pipe holds.
-const TOGETHER: usize = 20;
+pub const TOGETHER: usize = 20;
 
 /// The kinds of record: rounds, and rounds byte by byte.
 const KINDS: [u8; 2] = [1, 4];
@@ -33,39 +34,49 @@ fn run(run: &mut Run) -> Result<(), String> {
         for &(count, counter) in starts {
             let case = draw::on_square(&mut run.generator, Routine::Rounds { count, counter });
             for kind in KINDS {
-                input.extend(record(kind, count, counter, &case));
-                output.push_str(&line(count, counter, &case));
+                input.extend(record(kind, count, counter.into(), &case));
+                output.push_str(&line(&case));
             }
         }
-        Job {
-            name: "echo_cases",
-            words: Vec::new(),
-            folder: None,
-            pieces: at_once(input),
-            output,
-            said: String::new(),
-        }
-        .check()?;
+        job(input, output).check()?;
         run.count(starts.len());
     }
     Ok(())
 }
 
-/// A record of the program: what it has no use for is zero.
-fn record(kind: u8, count: u64, counter: u64, case: &Case) -> Vec<u8> {
+/// A run of the program on records.
+pub fn job(input: Vec<u8>, output: String) -> Job {
+    Job {
+        name: "echo_cases",
+        words: Vec::new(),
+        folder: None,
+        pieces: at_once(input),
+        output,
+        said: String::new(),
+    }
+}
+
+/// A record of the program for a square: what it has no use for is zero. From kind
+/// 6 on the counter has an upper half, which stands at the end.
+pub fn record(kind: u8, count: u64, counter: u128, case: &Case) -> Vec<u8> {
+    let (low, upper) = (counter as u64, (counter >> 64) as u64);
     let mut record = vec![kind, 16, count as u8, 0, 1, 0, 0];
-    record.extend(counter.to_le_bytes());
+    record.extend(low.to_le_bytes());
     record.extend(&case.salt);
     record.extend([0; 2]);
     record.extend(&case.lent);
     record.resize(545, 0);
+    if kind >= 6 {
+        record.extend(upper.to_le_bytes());
+    }
     record
 }
 
 /// The line that a record has to give: the refusal number and the whole room.
-fn line(count: u64, counter: u64, case: &Case) -> String {
-    let mut room = case.lent.clone();
-    let number = checked::rounds(&mut room, count, counter, &case.salt);
-    room.resize(272, 0);
-    format!("{number} {}\n", hex::encode(&room))
+pub fn line(case: &Case) -> String {
+    let Outcome {
+        number, mut lent, ..
+    } = case.outcome(&PLAIN);
+    lent.resize(272, 0);
+    format!("{number} {}\n", hex::encode(&lent))
 }

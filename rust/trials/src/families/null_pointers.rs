@@ -94,6 +94,35 @@ extern "C" {
         salt: *const u8,
         salt_len: usize,
     ) -> u8;
+    fn bahmorist_rounds_wide(
+        square: *mut u8,
+        square_len: usize,
+        rounds: u64,
+        low: u64,
+        high: u64,
+        salt: *const u8,
+        salt_len: usize,
+    ) -> u8;
+    fn bahmorist_rounds_back_wide(
+        square: *mut u8,
+        square_len: usize,
+        rounds: u64,
+        low: u64,
+        high: u64,
+        salt: *const u8,
+        salt_len: usize,
+    ) -> u8;
+    fn bahmorist_compress_wide(
+        mode: u8,
+        chaining: *mut u8,
+        chaining_len: usize,
+        block: *const u8,
+        block_len: usize,
+        low: u64,
+        high: u64,
+        salt: *const u8,
+        salt_len: usize,
+    ) -> u8;
     fn bahmorist_fingerprint(
         salt: *const u8,
         salt_len: usize,
@@ -105,7 +134,7 @@ extern "C" {
     ) -> u8;
 }
 
-// SAFETY, for all nine: the pointer of a slice and its length, or NULL and 0; what
+// SAFETY, for all twelve: the pointer of a slice and its length, or NULL and 0; what
 // is written comes from a `&mut`.
 pub const WITH_NULL: Implementation = Implementation {
     digest: |bits, salt, message, out| {
@@ -216,6 +245,37 @@ pub const WITH_NULL: Implementation = Implementation {
             )
         }
     },
+    rounds_wide: |square, count, counter, salt| {
+        let (square, square_len) = written(square);
+        let (low, high) = halves(counter);
+        let (salt, salt_len) = read(salt);
+        unsafe { bahmorist_rounds_wide(square, square_len, count, low, high, salt, salt_len) }
+    },
+    rounds_back_wide: |square, count, counter, salt| {
+        let (square, square_len) = written(square);
+        let (low, high) = halves(counter);
+        let (salt, salt_len) = read(salt);
+        unsafe { bahmorist_rounds_back_wide(square, square_len, count, low, high, salt, salt_len) }
+    },
+    compress_wide: |mode, chaining, block, counter, salt| {
+        let (chaining, chaining_len) = written(chaining);
+        let (block, block_len) = read(block);
+        let (low, high) = halves(counter);
+        let (salt, salt_len) = read(salt);
+        unsafe {
+            bahmorist_compress_wide(
+                mode,
+                chaining,
+                chaining_len,
+                block,
+                block_len,
+                low,
+                high,
+                salt,
+                salt_len,
+            )
+        }
+    },
     fingerprint: |salt, table, out| {
         let (salt, salt_len) = read(salt);
         let (table, table_len) = read(table);
@@ -228,6 +288,11 @@ pub const WITH_NULL: Implementation = Implementation {
         (number, place)
     },
 };
+
+/// The halves of a counter, the lower one first.
+fn halves(counter: u128) -> (u64, u64) {
+    ((counter % (1 << 64)) as u64, (counter / (1 << 64)) as u64)
+}
 
 /// Pointer and length of bytes to be read; NULL where there are none.
 fn read(bytes: &[u8]) -> (*const u8, usize) {
@@ -247,7 +312,8 @@ fn written(bytes: &mut [u8]) -> (*mut u8, usize) {
 
 fn run(run: &mut Run) -> Result<(), String> {
     run.subject = WITH_NULL;
-    for (routine, input, lent) in routines().into_iter().chain(in_modes()) {
+    let routines = routines().into_iter().chain(in_modes());
+    for (routine, input, lent) in routines.chain(wide()) {
         for empty in 0..8 {
             let case = with_empty(run, empty, routine, 0, input, lent);
             run.check(&case)?;
@@ -323,6 +389,23 @@ fn in_modes() -> [(Routine, usize, usize); 10] {
         (compress(1, 1536), 192, 64),
         (compress(1, u64::MAX), 192, 64),
         (compress(255, 1536), 192, 64),
+    ]
+}
+
+/// The same of routines whose counter has 128 bits.
+fn wide() -> [(Routine, usize, usize); 9] {
+    let counter = (5 << 64) - 80;
+    let compress = |mode| Routine::CompressWide { mode, counter };
+    [
+        (Routine::RoundsWide { count: 8, counter }, 0, 256),
+        (Routine::RoundsWide { count: 0, counter }, 0, 256),
+        (Routine::RoundsBackWide { count: 10, counter }, 0, 256),
+        (Routine::RoundsBackWide { count: 9, counter }, 0, 256),
+        (compress(0), 192, 64),
+        (compress(0), 128, 128),
+        (compress(1), 224, 32),
+        (compress(1), 192, 64),
+        (compress(2), 192, 64),
     ]
 }
 

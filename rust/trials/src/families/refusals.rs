@@ -19,11 +19,17 @@ pub const FAMILY: Family = Family {
 fn run(run: &mut Run) -> Result<(), String> {
     let mut cases = digests(&mut run.generator, |bits| Routine::Digest { bits });
     cases.extend(tags(&mut run.generator));
-    cases.extend(on_squares(&mut run.generator));
+    cases.extend(rounds(&mut run.generator));
     let without_mode = |counter| Routine::Compress { counter };
-    cases.extend(compressions(&mut run.generator, without_mode));
+    cases.extend(compressions(
+        &mut run.generator,
+        &inputs::COUNTERS,
+        without_mode,
+    ));
     cases.extend(in_modes(&mut run.generator, &inputs::MODES[..2]));
     cases.extend(fingerprints(&mut run.generator));
+    cases.extend(wide_rounds(&mut run.generator));
+    cases.extend(wide_in_modes(&mut run.generator, &inputs::MODES[..2]));
     cases.iter().try_for_each(|case| run.check(case))?;
     let checks = checks(&mut run.generator);
     checks.iter().try_for_each(|case| run.check(case))?;
@@ -31,7 +37,9 @@ fn run(run: &mut Run) -> Result<(), String> {
     // and a mode may have any number.
     run.subject = WITH_NULL;
     checks.iter().try_for_each(|case| run.check(case))?;
-    let cases = in_modes(&mut run.generator, &inputs::MODES);
+    let mut cases = in_modes(&mut run.generator, &inputs::MODES);
+    cases.extend(wide_rounds(&mut run.generator));
+    cases.extend(wide_in_modes(&mut run.generator, &inputs::MODES));
     cases.iter().try_for_each(|case| run.check(case))
 }
 
@@ -41,7 +49,17 @@ fn in_modes(generator: &mut Generator, modes: &[u8]) -> Vec<Case> {
     for &mode in modes {
         cases.extend(digests(generator, |bits| Routine::DigestIn { mode, bits }));
         let routine = |counter| Routine::CompressIn { mode, counter };
-        cases.extend(compressions(generator, routine));
+        cases.extend(compressions(generator, &inputs::COUNTERS, routine));
+    }
+    cases
+}
+
+/// Compressions in each of these modes, from counters of 128 bits.
+fn wide_in_modes(generator: &mut Generator, modes: &[u8]) -> Vec<Case> {
+    let mut cases = Vec::new();
+    for &mode in modes {
+        let routine = |counter| Routine::CompressWide { mode, counter };
+        cases.extend(compressions(generator, &inputs::WIDE_COUNTERS, routine));
     }
     cases
 }
@@ -103,16 +121,36 @@ fn checks(generator: &mut Generator) -> Vec<Case> {
 }
 
 /// Numbers 2, 6 and 7, forward and backward.
-fn on_squares(generator: &mut Generator) -> Vec<Case> {
+fn rounds(generator: &mut Generator) -> Vec<Case> {
+    on_squares(generator, &inputs::COUNTERS, |count, counter| {
+        [
+            Routine::Rounds { count, counter },
+            Routine::RoundsBack { count, counter },
+        ]
+    })
+}
+
+/// Numbers 2 and 6, forward and backward.
+fn wide_rounds(generator: &mut Generator) -> Vec<Case> {
+    on_squares(generator, &inputs::WIDE_COUNTERS, |count, counter| {
+        [
+            Routine::RoundsWide { count, counter },
+            Routine::RoundsBackWide { count, counter },
+        ]
+    })
+}
+
+fn on_squares<Counter: Copy>(
+    generator: &mut Generator,
+    counters: &[Counter],
+    routines: impl Fn(u64, Counter) -> [Routine; 2],
+) -> Vec<Case> {
     let mut cases = Vec::new();
     for salt in inputs::SALTS {
         for square in inputs::SQUARES {
             for count in inputs::COUNTS {
-                for counter in inputs::COUNTERS {
-                    for routine in [
-                        Routine::Rounds { count, counter },
-                        Routine::RoundsBack { count, counter },
-                    ] {
+                for &counter in counters {
+                    for routine in routines(count, counter) {
                         cases.push(filled(generator, routine, salt, 0, square));
                     }
                 }
@@ -122,12 +160,16 @@ fn on_squares(generator: &mut Generator) -> Vec<Case> {
     cases
 }
 
-/// Numbers 2, 6 and 7.
-fn compressions(generator: &mut Generator, routine: impl Fn(u64) -> Routine) -> Vec<Case> {
+/// Numbers 2 and 6, each with 7 and without where a counter has 64 bits.
+fn compressions<Counter: Copy>(
+    generator: &mut Generator,
+    counters: &[Counter],
+    routine: impl Fn(Counter) -> Routine,
+) -> Vec<Case> {
     let mut cases = Vec::new();
     for salt in inputs::SALTS {
         for (chaining, block) in inputs::SIZES {
-            for counter in inputs::COUNTERS {
+            for &counter in counters {
                 let routine = routine(counter);
                 cases.push(filled(generator, routine, salt, block, chaining));
             }

@@ -3,6 +3,7 @@
 //! whatever the references say.
 
 use super::rounds_forward::each_start;
+use super::wide_rounds::each_wide_start;
 use crate::case::{Case, Outcome, Routine};
 use crate::draw;
 use crate::family::{Family, Run};
@@ -18,6 +19,12 @@ fn run(run: &mut Run) -> Result<(), String> {
     each_start(run, USUAL, |run, count, counter| {
         let forward = Routine::Rounds { count, counter };
         let backward = Routine::RoundsBack { count, counter };
+        there_and_back(run, forward, backward)?;
+        there_and_back(run, backward, forward)
+    })?;
+    each_wide_start(run, USUAL, |run, count, counter| {
+        let forward = Routine::RoundsWide { count, counter };
+        let backward = Routine::RoundsBackWide { count, counter };
         there_and_back(run, forward, backward)?;
         there_and_back(run, backward, forward)
     })
@@ -47,7 +54,8 @@ fn there_and_back(run: &mut Run, there: Routine, back: Routine) -> Result<(), St
     }
 }
 
-fn call(run: &mut Run, case: &Case) -> Result<Outcome, String> {
+/// What comes of a case by the implementation under trial.
+pub fn call(run: &mut Run, case: &Case) -> Result<Outcome, String> {
     case.guarded_outcome(&run.subject, &mut run.generator)
         .map_err(|wrong| format!("{case}: {wrong}"))
 }

@@ -1,5 +1,7 @@
-use crate::families::{compressions, every_length, random_messages, rounds_backward};
-use crate::families::{rounds_forward, tables, there_and_back};
+use crate::draw::EDGE;
+use crate::families::{both_widths, compressions, every_length, random_messages};
+use crate::families::{rounds_backward, rounds_forward, tables, there_and_back};
+use crate::families::{wide_compressions, wide_rounds};
 use crate::family::Family;
 use crate::implementation::{Implementation, LIBRARY};
 
@@ -101,6 +103,93 @@ fn a_way_back_with_another_counter_is_seen() {
         ..LIBRARY
     };
     assert!(tried(&there_and_back::FAMILY, wrong).is_err());
+    let wrong = Implementation {
+        rounds_back_wide: |square, count, counter, salt| {
+            (LIBRARY.rounds_back_wide)(square, count, counter ^ EDGE, salt)
+        },
+        ..LIBRARY
+    };
+    let said = tried(&there_and_back::FAMILY, wrong).unwrap_err();
+    assert!(said.starts_with("wide rounds, 8 of them, "), "{said}");
+}
+
+/// A carry that is lost at one word alone, into the upper half and to 0.
+#[test]
+fn a_wide_start_that_is_wrong_is_seen() {
+    let wrong = Implementation {
+        rounds_wide: |square, count, counter, salt| {
+            square[0] ^= u8::from(count == 10 && counter == EDGE - 159);
+            (LIBRARY.rounds_wide)(square, count, counter, salt)
+        },
+        ..LIBRARY
+    };
+    let said = tried(&wide_rounds::FAMILY, wrong).unwrap_err();
+    assert!(
+        said.contains("10 of them, counter 0xffffffffffffff61, "),
+        "{said}"
+    );
+    let wrong = Implementation {
+        compress_wide: |mode, chaining, block, counter, salt| {
+            chaining[0] ^= u8::from((mode, chaining.len(), counter) == (1, 32, u128::MAX));
+            (LIBRARY.compress_wide)(mode, chaining, block, counter, salt)
+        },
+        ..LIBRARY
+    };
+    let said = tried(&wide_compressions::FAMILY, wrong).unwrap_err();
+    let counter = format!("wide compression, mode 1, counter 0x{}, ", "f".repeat(32));
+    assert!(said.contains(&counter), "{said}");
+}
+
+#[test]
+fn halves_that_change_places_are_seen() {
+    let wrong = Implementation {
+        rounds_wide: |square, count, counter, salt| {
+            (LIBRARY.rounds_wide)(square, count, counter.rotate_left(64), salt)
+        },
+        rounds_back_wide: |square, count, counter, salt| {
+            (LIBRARY.rounds_back_wide)(square, count, counter.rotate_left(64), salt)
+        },
+        compress_wide: |mode, chaining, block, counter, salt| {
+            (LIBRARY.compress_wide)(mode, chaining, block, counter.rotate_left(64), salt)
+        },
+        ..LIBRARY
+    };
+    assert!(tried(&there_and_back::FAMILY, wrong).is_ok());
+    let families = [
+        wide_rounds::FAMILY,
+        wide_compressions::FAMILY,
+        both_widths::FAMILY,
+    ];
+    for family in families {
+        assert!(tried(&family, wrong).is_err(), "{}", family.name);
+    }
+}
+
+#[test]
+fn an_upper_half_that_is_left_out_is_seen() {
+    let wrong = Implementation {
+        compress_wide: |mode, chaining, block, counter, salt| {
+            (LIBRARY.compress_wide)(mode, chaining, block, counter % EDGE, salt)
+        },
+        ..LIBRARY
+    };
+    assert!(tried(&both_widths::FAMILY, wrong).is_ok());
+    assert!(tried(&wide_compressions::FAMILY, wrong).is_err());
+}
+
+#[test]
+fn a_limit_that_only_one_width_has_is_seen() {
+    let wrong = Implementation {
+        compress_wide: |mode, chaining, block, counter, salt| {
+            (LIBRARY.compress_in)(mode, chaining, block, counter as u64, salt)
+        },
+        ..LIBRARY
+    };
+    let said = tried(&both_widths::FAMILY, wrong).unwrap_err();
+    assert!(
+        said.ends_with("7, and wide 7, where 7 and 0 are right"),
+        "{said}"
+    );
 }
 
 #[test]
@@ -130,6 +219,13 @@ fn a_table_that_is_one_byte_too_long_to_be_refused_is_seen() {
 fn the_library_passes_and_is_counted() {
     assert_eq!(tried(&tables::FAMILY, LIBRARY), Ok(200));
     assert_eq!(tried(&compressions::FAMILY, LIBRARY), Ok(200 + 6 * 18));
+    // 481 starts, each case by both.
+    let wide = tried(&wide_rounds::FAMILY, LIBRARY);
+    assert_eq!(wide, Ok(2 * 2 * (2 * 481 + 200)));
+    let wide = tried(&wide_compressions::FAMILY, LIBRARY);
+    assert_eq!(wide, Ok(2 * (4 * 481 + 200)));
+    let wide = tried(&both_widths::FAMILY, LIBRARY);
+    assert_eq!(wide, Ok((4 + 6) * (18 + 160 + 200)));
 }
 
 #[test]

@@ -51,6 +51,18 @@ pub const COUNTS: [u64; 10] = [0, 1, 7, 8, 9, 10, 11, 256 + 8, (1 << 32) + 10, u
 /// Starting counters: the first two are admitted.
 pub const COUNTERS: [u64; 4] = [0, HIGHEST_COUNTER, HIGHEST_COUNTER + 1, u64::MAX];
 
+/// Starting counters of 128 bits, all of which are admitted: those of 64 bits, and
+/// some that need more.
+pub const WIDE_COUNTERS: [u128; 7] = [
+    0,
+    HIGHEST_COUNTER as u128,
+    HIGHEST_COUNTER as u128 + 1,
+    u64::MAX as u128,
+    1 << 64,
+    u128::MAX - 160,
+    u128::MAX,
+];
+
 /// Numbers of a mode: the first two have one.
 pub const MODES: [u8; 4] = [0, 1, 2, 255];
 

@@ -29,9 +29,10 @@ fn every_set_of_refusals_is_met() {
     assert_eq!(sets(digests_without_mode), every_set(&[1, 2, 5]));
     assert_eq!(sets(tags(generator)), every_set(&[1, 2, 5]));
     assert_eq!(sets(checks(generator)), every_set(&[1, 2]));
-    assert_eq!(sets(on_squares(generator)), every_set(&[2, 6, 7]));
+    assert_eq!(sets(rounds(generator)), every_set(&[2, 6, 7]));
+    assert_eq!(sets(wide_rounds(generator)), every_set(&[2, 6]));
     let without_mode = |counter| Routine::Compress { counter };
-    let sets_met = sets(compressions(generator, without_mode));
+    let sets_met = sets(compressions(generator, &inputs::COUNTERS, without_mode));
     assert_eq!(sets_met, every_set(&[2, 6, 7]));
     // Of 9 and 10 only the one nearer the front applies.
     let mut tables = every_set(&[2, 5, 8, 9, 10]);
@@ -54,6 +55,9 @@ fn every_set_of_refusals_is_met_in_each_mode() {
         let mut expected = every_set(&[2, 6, 7]);
         expected.retain(|set| set.contains(&6) || mode <= 1);
         assert_eq!(sets(compressions), expected);
+        let wide = wide_in_modes(generator, &[mode]);
+        expected.retain(|set| !set.contains(&7));
+        assert_eq!(sets(wide), expected);
     }
 }
 
@@ -84,6 +88,23 @@ fn a_bound_that_is_one_off_is_seen() {
         ..LIBRARY
     };
     assert!(said(wrong).contains("compression, counter 18446744073709551455"));
+}
+
+/// The limit of 64 bits, where there are 128.
+#[test]
+fn a_wide_counter_that_is_refused_is_seen() {
+    let wrong = Implementation {
+        rounds_back_wide: |square, count, counter, salt| match (LIBRARY.rounds_back_wide)(
+            square, count, counter, salt,
+        ) {
+            0 if counter as u64 > expected::HIGHEST_COUNTER => 7,
+            number => number,
+        },
+        ..LIBRARY
+    };
+    let said = said(wrong);
+    assert!(said.contains("wide rounds backward, 8 of them, "), "{said}");
+    assert!(said.contains("refused by 7, "), "{said}");
 }
 
 /// 64 and 128 in single-pipe: the mode is left out of the refusal.

@@ -13,9 +13,9 @@ pub fn rounds(square: &mut [u8; 256], count: u64, counter: u128, salt: &Word) ->
     if !present() {
         return false;
     }
-    let counter = halves(counter);
+    let (words, counter, salt) = (load_all(square), halves(counter), load(*salt));
     // SAFETY: the instruction is there.
-    let finished = unsafe { square::rounds(load_all(square), count, counter, load(*salt)) };
+    let finished = unsafe { square::rounds::<true>(words, count, counter, salt) };
     for (bytes, word) in square.chunks_exact_mut(16).zip(finished) {
         bytes.copy_from_slice(&store(word));
     }

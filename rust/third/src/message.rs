@@ -43,7 +43,7 @@ fn iterate<const C: usize>(bits: u64, count: u64, salt: Vector, message: &[u8]) 
             low: counter,
             high: 0,
         };
-        compress(&mut chaining, block, count, counter, salt);
+        compress::<C, false>(&mut chaining, block, count, counter, salt);
     }
     let mut bytes: Vec<u8> = chaining.into_iter().flat_map(store).collect();
     bytes.truncate(bits as usize / 8);
@@ -75,7 +75,7 @@ pub fn compress_bytes<const C: usize>(
     salt: Word,
 ) {
     let mut words: [Vector; C] = load_all(chaining);
-    compress(&mut words, block, count, counter, load(salt));
+    compress::<C, true>(&mut words, block, count, counter, load(salt));
     for (bytes, word) in chaining.chunks_exact_mut(16).zip(words) {
         bytes.copy_from_slice(&store(word));
     }
@@ -86,7 +86,7 @@ pub fn compress_bytes<const C: usize>(
 /// with x0 and x2 of section 5.1, and v1 with x1 and x3.
 #[inline]
 #[target_feature(enable = "aes")]
-fn compress<const C: usize>(
+fn compress<const C: usize, const WIDE: bool>(
     chaining: &mut [Vector; C],
     block: &[u8],
     count: u64,
@@ -96,7 +96,7 @@ fn compress<const C: usize>(
     let mut square = [load([0; 16]); 16];
     square[..C].copy_from_slice(chaining);
     square[C..].copy_from_slice(&load_all::<16>(block)[..16 - C]);
-    let finished = rounds(square, count, counter, salt);
+    let finished = rounds::<WIDE>(square, count, counter, salt);
     for place in C..16 {
         chaining[place % C] = xor(chaining[place % C], square[place]);
     }

@@ -1,6 +1,7 @@
 # make                          proves and builds everything, then runs the main job on examples
 # make test                     the gate
 # make bench                    times and stack of a digest, against plain, tables and the AES instruction
+# make bench BEFORE=PATH/libbahmorist.a   the same, and beside an earlier build, which that commit's tools/library made; takes objcopy
 # make trials SEED=1 CASES=1000 a longer run against the second implementation, with its own seed and number of cases
 # make install PREFIX=/usr/local DESTDIR=   header, archive, pkg-config file and programs, as `make` built them
 # make clean                    removes what was built
@@ -21,9 +22,11 @@ all:
 test:
 	.ci/run
 
+BEFORE =
 bench:
+	@[ -z "$(BEFORE)" ] || [ -f "$(BEFORE)" ] || { echo "no $(BEFORE)" >&2; exit 1; }
 	tools/library
-	cargo run --quiet --profile measured --offline --manifest-path rust/Cargo.toml -p bench
+	BEFORE="$(abspath $(BEFORE))" cargo run --quiet --profile measured --offline --manifest-path rust/Cargo.toml -p bench
 
 SEED = 1
 CASES = 1000

@@ -1,15 +1,19 @@
 //! Times digests by the proved library, by `plain`, by `tables` and by the
 //! processor's AES instruction, on the same inputs in one run, and measures the
 //! stack that a digest of the library takes. Single-pipe is timed beside
-//! double-pipe, and not judged. Exits with 1 where the library is slower than it may
-//! be.
+//! double-pipe, a counter of 128 bits beside one of 64, and an earlier build of the
+//! library beside the present one where there is one; these are not judged. Exits
+//! with 1 where the library is slower than it may be.
 
+#[cfg(before)]
+mod before;
 mod contender;
 mod judgement;
 mod message;
 mod pipes;
 mod stack;
 mod timing;
+mod widths;
 
 use contender::{block_bytes, Contender, CONTENDERS, INSTRUCTION, LIBRARY, PLAIN, ROUNDS, TABLES};
 use judgement::Row;
@@ -37,6 +41,13 @@ fn main() -> ExitCode {
     }
     for bits in BITS {
         println!("{}", pipes::line(bits));
+    }
+    for bits in BITS {
+        println!("{}", widths::line(bits));
+    }
+    #[cfg(before)]
+    for line in BITS.into_iter().flat_map(before::lines) {
+        println!("{line}");
     }
     for bits in BITS {
         match stack::of_digest(bits, &[0; 4096]) {

@@ -35,7 +35,8 @@ pub fn cases(generator: &mut Generator, before: &[Case]) -> Vec<Case> {
     let mut cases = into_the_upper_half(generator);
     cases.extend(behind_the_edge(generator));
     cases.extend(to_zero(generator));
-    cases.extend(to_zero_by_turns(generator));
+    cases.extend(over(generator, EDGE));
+    cases.extend(over(generator, 0));
     cases.extend(in_between(generator));
     cases.extend(pairs(before));
     cases.extend(refused::cases(generator));
@@ -101,14 +102,14 @@ fn to_zero(generator: &mut Generator) -> Vec<Case> {
     cases
 }
 
-/// All kinds from some of the last starts, all of which go over to 0 within eight
-/// rounds.
-fn to_zero_by_turns(generator: &mut Generator) -> Vec<Case> {
+/// All kinds over an edge, each from two starts that are less than eight rounds
+/// before it.
+fn over(generator: &mut Generator, edge: u128) -> Vec<Case> {
     let turns = TURNS.into_iter().cycle();
     (3..128)
-        .step_by(5)
+        .step_by(8)
         .zip(turns)
-        .map(|(before, turn)| done(generator, turn, 0u128.wrapping_sub(before)))
+        .map(|(before, turn)| done(generator, turn, edge.wrapping_sub(before)))
         .collect()
 }
 

@@ -1,9 +1,10 @@
 // Runs rounds, forward and backward, and compressions on the cases of standard input, which a second implementation made, and prints
 // the refusal number of each and the whole lent memory behind it.
 //
-// A case is 545 bytes: a kind (1 rounds, 2 rounds back, 3 compression, 4 rounds byte by byte, 5 compression in single-pipe), the salt's length, the round count, the length of
-// the square or chaining variable and that of the block (two bytes each), the counter (eight bytes), then room for the salt (18 bytes), for the
-// square or chaining variable (272) and for the block (240). Numbers have their least significant byte first.
+// A case is 545 bytes: a kind (1 rounds, 2 rounds back, 3 compression, 4 rounds byte by byte, 5 compression in single-pipe; 6, 7, 8 and 9 are 1, 2, 3 and
+// 5 with a counter of 128 bits), the salt's length, the round count, the length of the square or chaining variable and that of the block (two bytes
+// each), the counter (eight bytes), then room for the salt (18 bytes), for the square or chaining variable (272) and for the block (240). From kind
+// 6 on the counter's upper half follows, eight bytes more. Numbers have their least significant byte first.
 ghost use Prim.Native.Nat.{_≤_, _+_, _<_};
 ghost use mathlib.Core.Path.{_≡_};
 ghost use lib.ListN.{length};
@@ -76,7 +77,32 @@ fn apply(
     }
 }
 
-fn run(case: &[u8])
+// The same with a counter of 128 bits.
+fn apply_wide(
+    kind: u8,
+    a: &mut [u8],
+    end: usize,
+    block: &[u8],
+    count: u64,
+    low: u64,
+    high: u64,
+    salt: &[u8],
+) -> u8
+    requires { ⌜ end ≤ length (now a) ⌝ }
+{
+    let lent = &mut a[..end];
+    if kind == 6 {
+        echo::rounds_wide(lent, count, low, high, salt)
+    } else if kind == 7 {
+        echo::rounds_back_wide(lent, count, low, high, salt)
+    } else if kind == 9 {
+        echo::compress_wide(Mode::SinglePipe, lent, block, low, high, salt)
+    } else {
+        echo::compress_wide(Mode::DoublePipe, lent, block, low, high, salt)
+    }
+}
+
+fn run(case: &[u8], high: u64)
     requires { ⌜ length (now case) ≡ 545 ⌝ }
 {
     let salt_end = 15 + wide(case[1]) as usize;
@@ -97,15 +123,15 @@ fn run(case: &[u8])
     }
     let salt = &case[15..salt_end];
     let block = &case[305..block_end];
-    let refusal = apply(
-        case[0],
-        &mut a,
-        a_end,
-        block,
-        wide(case[2]),
-        long(case, 7),
-        salt,
-    );
+    let kind = case[0];
+    let count = wide(case[2]);
+    let counter = long(case, 7);
+    if kind < 6 {
+        let refusal = apply(kind, &mut a, a_end, block, count, counter, salt);
+        print(refusal, &a);
+        return;
+    }
+    let refusal = apply_wide(kind, &mut a, a_end, block, count, counter, high, salt);
     print(refusal, &a);
 }
 
@@ -118,7 +144,16 @@ fn main() {
         if n < 545 {
             return;
         }
-        run(&case);
+        let mut high: u64 = 0;
+        if 6 <= case[0] {
+            let mut upper = [0u8; 8];
+            let m = io::read_full(STDIN_FILENO, &mut upper);
+            if m < 8 {
+                return;
+            }
+            high = long(&upper, 0);
+        }
+        run(&case, high);
         turns -= 1;
     }
 }

@@ -49,7 +49,7 @@ module _ (s : List ℕ) (long : length s ≡ 64) (fit : (k : ℕ) → Fits w32 (
           comes-from 0 (16 * c + j) (16 * c + j) (lit< tt) (omega arith) (omega arith),
           comes-from 1 (16 * c + j + 4) ((16 * c + j + 20) % 64) (lit< tt) (omega arith) (omega arith),
           comes-from 2 (16 * c + j + 8) ((16 * c + j + 40) % 64) (lit< tt) (omega arith) (omega arith),
-          comes-from 3 (16 * c + j + 12) ((16 * c + j + 60) % 64) (lit< tt) (omega arith) (omega arith)
+          comes-from 3 (16 * c + j + 12) ((16 * c + j + 60) % 64) (lit< tt) (omega arith) (omega arith),
         )
 
   -- a turn of the inner loop

@@ -7,11 +7,11 @@ use Rattle.echo_cases.proofs.run.Statement.{statement}
 use Rattle.echo_cases.proofs.run.Tie as tie
 
 abbrev Inv-loop : tie.InvT-loop
-Inv-loop case salt-end a-end block-end a₀ i₀ a i =
+Inv-loop case high salt-end a-end block-end a₀ i₀ a i =
     (length a ≡ 272) × (i ≤ 272) × (15 ≤ salt-end) × (salt-end ≤ 33) × (a-end ≤ 272) × (305 ≤ block-end) × (block-end ≤ 545)
 
 abbrev μ-loop : tie.MeasureT-loop
-μ-loop case salt-end a-end block-end a₀ i₀ a i = 272 - i
+μ-loop case high salt-end a-end block-end a₀ i₀ a i = 272 - i
 
 shared-slice-read-wide : tie.Need-shared-slice-read-wide Inv-loop μ-loop
 shared-slice-read-wide c = search needs
@@ -79,11 +79,8 @@ part-block-start c = search needs
 part-block-end : tie.Need-part-block-end Inv-loop μ-loop
 part-block-end c = search needs
 
-shared-slice-read-apply : tie.Need-shared-slice-read-apply Inv-loop μ-loop
-shared-slice-read-apply c = search needs
-
-slice-aggregate-apply : tie.Need-slice-aggregate-apply Inv-loop μ-loop
-slice-aggregate-apply c = search needs
+shared-slice-read-kind : tie.Need-shared-slice-read-kind Inv-loop μ-loop
+shared-slice-read-kind c = search needs
 
 shared-slice-read-wide-2 : tie.Need-shared-slice-read-wide-2 Inv-loop μ-loop
 shared-slice-read-wide-2 c = search needs
@@ -93,6 +90,9 @@ wide-requires-2 c κs = search needs
 
 long-requires : tie.Need-long-requires Inv-loop μ-loop
 long-requires c κs = search needs
+
+slice-aggregate-apply : tie.Need-slice-aggregate-apply Inv-loop μ-loop
+slice-aggregate-apply c = search needs
 
 apply-requires : tie.Need-apply-requires Inv-loop μ-loop
 apply-requires c κs = search needs
@@ -105,6 +105,21 @@ print-requires c κs = search needs
 
 returns-4 : tie.Need-returns-4 Inv-loop μ-loop
 returns-4 c = search needs
+
+slice-aggregate-apply-wide : tie.Need-slice-aggregate-apply-wide Inv-loop μ-loop
+slice-aggregate-apply-wide c = search needs
+
+apply-wide-requires : tie.Need-apply-wide-requires Inv-loop μ-loop
+apply-wide-requires c κs = search needs
+
+slice-aggregate-print-2 : tie.Need-slice-aggregate-print-2 Inv-loop μ-loop
+slice-aggregate-print-2 c = search needs
+
+print-requires-2 : tie.Need-print-requires-2 Inv-loop μ-loop
+print-requires-2 c κs = search needs
+
+returns-5 : tie.Need-returns-5 Inv-loop μ-loop
+returns-5 c = search needs
 
 pub run-spec : {M : Type 1} → statement M
 run-spec =
@@ -134,12 +149,17 @@ run-spec =
     sub-block
     part-block-start
     part-block-end
-    shared-slice-read-apply
-    slice-aggregate-apply
+    shared-slice-read-kind
     shared-slice-read-wide-2
     wide-requires-2
     long-requires
+    slice-aggregate-apply
     apply-requires
     slice-aggregate-print
     print-requires
-    returns-4)
+    returns-4
+    slice-aggregate-apply-wide
+    apply-wide-requires
+    slice-aggregate-print-2
+    print-requires-2
+    returns-5)

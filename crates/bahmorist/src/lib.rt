@@ -144,7 +144,7 @@ pub extern "C" fn bahmorist_compress_wide(
     ensures left { λ _. ⌜ now (chaining .exit) ≡ compressWideInLeaves mode (now (chaining .entry)) (now (block .entry)) (halves low high) (now (salt .entry)) ⌝ }
 {
     if no_mode(mode) {
-        return if salt.len() == 16 { 6 } else { 2 };
+        return if salt.len() != 16 { 2 } else { 6 };
     }
     echo::compress_wide(mode_of(mode), chaining, block, low, high, salt)
 }

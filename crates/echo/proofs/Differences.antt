@@ -1,9 +1,9 @@
--- Six wrong programs of must-fail/ change a definition and not the code, since the code could be made so only by a change of its shape. For each, a
+-- Eight wrong programs of must-fail/ change a definition and not the code, since the code could be made so only by a change of its shape. For each, a
 -- point at which the definition and the changed one, which is written out, differ. Assumes nothing.
-use mathlib.Core.Path.{_≡_, sym, ap, _∙_}
+use mathlib.Core.Path.{_≡_, refl, sym, ap, _∙_}
 use mathlib.Core.Bool.{Bool, _&&_, true≢false}
 use mathlib.Core.List.{List, [], _∷_, _++_}
-use Prim.Native.Nat.{ℕ, _+_, _*_, _/_, _%_, _^_, max}
+use Prim.Native.Nat.{ℕ, _+_, _*_, _-_, _/_, _%_, _^_, max, min}
 use native.Mathlib.Omega.{arith}
 use lib.Dec.{leb, lit<}
 use lib.ListN.{drop, getD, length, replicate, take}
@@ -17,8 +17,9 @@ use Rattle.echo.specs.Families.{blockSize, chainingSize}
 use Rattle.echo.specs.Numbers.{littleEndian}
 use Rattle.echo.specs.Refusals.{unless}
 use Rattle.echo.specs.Session.{admitted, allZero, blank, isSession, limit, made, readLeaves, readRefusal, sessionDigest}
-use Rattle.echo.specs.Square.{counterKey, keysFrom}
+use Rattle.echo.specs.Square.{counterKey, keysFrom, wideKey, wideKeysFrom}
 use Rattle.echo.proofs.Laws.Joined.{first-part}
+use Rattle.echo.proofs.Laws.Numbers.{wide-key-at}
 
 low-byte : (k : ℕ) → getD (counterKey k) 0 0 ≡ k / 256 ^ 0 % 256
 unfolding counterKey littleEndian
@@ -28,6 +29,22 @@ low-byte k = first-part 8 (littleEndian 8 k) (replicate 8 0) (length-tab 8 _) 0 
 pub counter-per-aes-round-differs : keysFrom 0 (16 * 0 + 1) ≡ keysFrom 0 (32 * 0 + 1 + 1) → ⊥
 counter-per-aes-round-differs e =
     let z : _≡_ {A = ℕ} 1 2 = sym (low-byte 1) ∙ ap (λ (l : List ℕ). getD l 0 0) e ∙ low-byte 2 in
+    omega arith
+
+-- the counter behind the highest one: 0, and not the highest again
+pub counter-saturates-differs : wideKeysFrom (2 ^ 128 - 1) 1 ≡ wideKey (min (2 ^ 128 - 1 + 1) (2 ^ 128 - 1)) → ⊥
+counter-saturates-differs e =
+    let none = wide-key-at 0 0 0 refl (lit< tt) in
+    let all = wide-key-at (2 ^ 64 - 1) (2 ^ 64 - 1) (2 ^ 128 - 1) refl (lit< tt) in
+    let z : _≡_ {A = ℕ} 0 255 = ap (λ (l : List ℕ). getD l 0 0) (none ∙ e ∙ sym all) in
+    omega arith
+
+-- word 0 of round 1, where the counter began at 2^64
+pub upper-half-in-round-one-alone-differs : wideKeysFrom (2 ^ 64) 16 ≡ wideKey ((2 ^ 64 + 16) % 2 ^ (128 - min 64 (16 / 16 * 64))) → ⊥
+upper-half-in-round-one-alone-differs e =
+    let both = wide-key-at 16 1 (2 ^ 64 + 16) refl (lit< tt) in
+    let lower = wide-key-at 16 0 16 refl (lit< tt) in
+    let z : _≡_ {A = ℕ} 1 0 = ap (λ (l : List ℕ). getD l 8 0) (both ∙ e ∙ sym lower) in
     omega arith
 
 -- the number 1 in two bytes

@@ -9,10 +9,10 @@ no-mode-requires : tie.Need-no-mode-requires
 no-mode-requires c κs = search needs
 
 returns : tie.Need-returns
-returns c = (search wide-no-mode-6, search wide-no-mode-keeps)
+returns c = (search wide-no-mode-2, search wide-no-mode-keeps)
 
 returns-2 : tie.Need-returns-2
-returns-2 c = (search wide-no-mode-2, search wide-no-mode-keeps)
+returns-2 c = (search wide-no-mode-6, search wide-no-mode-keeps)
 
 mode-of-requires : tie.Need-mode-of-requires
 mode-of-requires c κs = search needs

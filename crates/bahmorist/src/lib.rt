@@ -69,7 +69,7 @@ pub extern "C" fn bahmorist_rounds_back(
     echo::rounds_back(square, rounds, counter, salt)
 }
 
-// Both with a counter of 128 bits, which counts on modulo 2^128; or a refusal by 2 or 6.
+// The square after 8 or 10 rounds that count on from the counter of these halves, modulo 2^128, and 0; or a refusal by 2 or 6.
 #[no_mangle]
 pub extern "C" fn bahmorist_rounds_wide(
     square: &mut [u8],
@@ -84,6 +84,7 @@ pub extern "C" fn bahmorist_rounds_wide(
     echo::rounds_wide(square, rounds, low, high, salt)
 }
 
+// The square that those rounds took to this one, and 0; or a refusal by 2 or 6.
 #[no_mangle]
 pub extern "C" fn bahmorist_rounds_back_wide(
     square: &mut [u8],
@@ -130,7 +131,7 @@ pub extern "C" fn bahmorist_compress_in(
     echo::compress(mode_of(mode), chaining, block, counter, salt)
 }
 
-// The same with a counter of 128 bits, which counts on modulo 2^128; or a refusal by 2 or 6.
+// The same from the counter of these halves, which counts on modulo 2^128, and 0; or a refusal by 2 or 6.
 #[no_mangle]
 pub extern "C" fn bahmorist_compress_wide(
     mode: u8,

@@ -22,7 +22,7 @@ use Rattle.echo.specs.SinglePipe.{compress51, compress52}
 use Rattle.echo.specs.Square.{bigMixColumns, bigShiftRows, keysFrom, rounds, roundsBack, wideKeysFrom}
 use Rattle.echo.proofs.Laws.Compression.{block-parts, fold-loaded}
 use Rattle.echo.proofs.Laws.Numbers.{key-bytes, wide-key-bytes}
-use Rattle.echo.proofs.Laws.Refusals.{RoundsFit, compress-parts, compress-some, compress-square, compress-within, done, rounds-fit, rounds-within}
+use Rattle.echo.proofs.Laws.Refusals.{compress-parts, compress-some, compress-square, compress-within, done, rounds-fit, rounds-within}
 use Rattle.echo.proofs.Laws.SinglePipe.{as-printed-51, as-printed-52}
 use Rattle.echo.proofs.Laws.Square.{Keys, rounds-are-squares, rounds-back-are-squares, rounds-back-undone, rounds-undone}
 use Rattle.echo.proofs.Laws.Undone.{undo-each-other}

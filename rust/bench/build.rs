@@ -1,9 +1,12 @@
 //! Links an earlier build of the library beside the present one, where the variable
-//! BEFORE names its archive: a copy whose `bahmorist_digest` is called
-//! `before_digest`, and which shows no other name, since those are taken.
+//! BEFORE names its archive: a copy in which the functions that are timed begin with
+//! `before_`, and which shows no other name, since those are taken.
 
 use std::env;
 use std::process::Command;
+
+/// What is timed, as the archive calls it behind `bahmorist_`.
+const TIMED: [&str; 2] = ["digest", "rounds_back"];
 
 fn main() {
     println!("cargo::rustc-check-cfg=cfg(before)");
@@ -14,14 +17,16 @@ fn main() {
     }
     println!("cargo::rerun-if-changed={archive}");
     let folder = env::var("OUT_DIR").expect("cargo sets OUT_DIR");
-    // Some take the name before the change for what is kept, and some that behind it.
-    let copied = Command::new("objcopy")
-        .arg("--redefine-sym=bahmorist_digest=before_digest")
-        .arg("--keep-global-symbol=bahmorist_digest")
-        .arg("--keep-global-symbol=before_digest")
-        .args([&archive, &format!("{folder}/libbefore.a")])
-        .status();
-    match copied {
+    let mut objcopy = Command::new("objcopy");
+    for name in TIMED {
+        objcopy.arg(format!("--redefine-sym=bahmorist_{name}=before_{name}"));
+        // Some take the name before the change for what is kept, and some that
+        // behind it.
+        objcopy.arg(format!("--keep-global-symbol=bahmorist_{name}"));
+        objcopy.arg(format!("--keep-global-symbol=before_{name}"));
+    }
+    objcopy.args([&archive, &format!("{folder}/libbefore.a")]);
+    match objcopy.status() {
         Ok(status) if status.success() => {}
         Ok(status) => return println!("cargo::error=objcopy of {archive}: {status}"),
         Err(error) => return println!("cargo::error=objcopy: {error}"),

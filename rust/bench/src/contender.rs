@@ -44,12 +44,20 @@ pub const CONTENDERS: [Contender; 4] = [
 pub const ROUNDS: Contender = Contender {
     digest: |bits, _, out| {
         let mut square = [out[0]; 256];
-        let count = if bits <= 256 { 8 } else { 10 };
-        let done = bahmorist::rounds(&mut square, count, 0, &SALT).is_ok();
+        let done = bahmorist::rounds(&mut square, rounds(bits), 0, &SALT).is_ok();
         out.copy_from_slice(&square[..64]);
         done
     },
 };
+
+/// The rounds of a block.
+pub fn rounds(bits: u64) -> u64 {
+    if bits <= 256 {
+        8
+    } else {
+        10
+    }
+}
 
 /// The bytes of a block.
 pub fn block_bytes(bits: u64) -> usize {

@@ -121,7 +121,7 @@ pub fn compress_wide(
     0
 }
 
-// The same with a counter of 64 bits: `compress_wide` with the upper half zero, behind a bound on the counter, above which it refuses by 7.
+// From a counter of 64 bits: `compress_wide` with the upper half zero, behind a bound on the counter, above which it refuses by 7.
 pub fn compress(mode: Mode, chaining: &mut [u8], block: &[u8], counter: u64, salt: &[u8]) -> u8
     ensures refusal { λ r. ⌜ r ≡ compressRefusal mode (length (now (chaining .entry))) (length (now (block .entry))) counter (length (now (salt .entry))) ⌝ }
     ensures left { λ _. ⌜ now (chaining .exit) ≡ compressLeaves mode (now (chaining .entry)) (now (block .entry)) counter (now (salt .entry)) ⌝ }

@@ -14,6 +14,7 @@ pub(crate) fn count_on(counter: Counter, words: u64) -> Counter
     ensures { λ r. ⌜ halves (r .low) (r .high) ≡ (halves (counter .low) (counter .high) + words) % 2 ^ 128 ⌝ }
 {
     let low = std::num::wrapping_add_u64(counter.low, words);
+    // A sum that went over is below what was added to it, and no other is.
     if low < words {
         let high = std::num::wrapping_add_u64(counter.high, 1);
         return Counter { low, high };

@@ -67,8 +67,7 @@ pub fn rounds_back_wide(square: &mut [u8], count: u64, low: u64, high: u64, salt
     0
 }
 
-// The rounds from a counter of 64 bits: those of `rounds_wide` with the upper half zero, behind a bound on the counter, above which it refuses by
-// 7.
+// From a counter of 64 bits: `rounds_wide` with the upper half zero, behind a bound on the counter, above which it refuses by 7.
 pub fn rounds(square: &mut [u8], count: u64, counter: u64, salt: &[u8]) -> u8
     ensures refusal { λ r. ⌜ r ≡ roundsRefusal (length (now (square .entry))) count counter (length (now (salt .entry))) ⌝ }
     ensures left { λ _. ⌜ now (square .exit) ≡ roundsLeave (now (square .entry)) count counter (now (salt .entry)) ⌝ }
@@ -80,7 +79,7 @@ pub fn rounds(square: &mut [u8], count: u64, counter: u64, salt: &[u8]) -> u8
     rounds_wide(square, count, counter, 0, salt)
 }
 
-// The same byte by byte, whichever path `rounds` takes: slower, and with a seventh of the stack.
+// The same byte by byte, whichever path `rounds` takes: slower, and with a sixth of the stack.
 pub fn rounds_by_bytes(square: &mut [u8], count: u64, counter: u64, salt: &[u8]) -> u8
     ensures refusal { λ r. ⌜ r ≡ roundsRefusal (length (now (square .entry))) count counter (length (now (salt .entry))) ⌝ }
     ensures left { λ _. ⌜ now (square .exit) ≡ roundsLeave (now (square .entry)) count counter (now (salt .entry)) ⌝ }
@@ -97,7 +96,7 @@ pub fn rounds_by_bytes(square: &mut [u8], count: u64, counter: u64, salt: &[u8])
     0
 }
 
-// The way back: the square that `rounds` took to this one, for the same count, starting counter and salt.
+// The way back: the square that `rounds` took to this one, for the same count, starting counter and salt; `rounds_back_wide` likewise.
 pub fn rounds_back(square: &mut [u8], count: u64, counter: u64, salt: &[u8]) -> u8
     ensures refusal { λ r. ⌜ r ≡ roundsRefusal (length (now (square .entry))) count counter (length (now (salt .entry))) ⌝ }
     ensures left { λ _. ⌜ now (square .exit) ≡ roundsBackLeave (now (square .entry)) count counter (now (salt .entry)) ⌝ }

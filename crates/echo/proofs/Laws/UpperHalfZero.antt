@@ -13,12 +13,12 @@ use Rattle.echo.specs.declared.mode.Mode.{Mode}
 use Rattle.echo.specs.Compression.{bigFinal, compress}
 use Rattle.echo.specs.Families.{roundCount}
 use Rattle.echo.specs.Numbers.{halves}
+use Rattle.echo.specs.Refusals.{unless}
 use Rattle.echo.specs.Routines.{compressLeaves, compressRefusal, compressWideLeaves, compressWideRefusal}
 use Rattle.echo.specs.Routines.{roundsBackLeave, roundsBackWideLeave, roundsLeave, roundsRefusal, roundsWideLeave, roundsWideRefusal}
 use Rattle.echo.specs.Square.{bigMixColumns, bigMixColumnsBack, bigRound, bigRoundBack, bigShiftRows, bigShiftRowsBack, bigSubWords, bigSubWordsBack}
 use Rattle.echo.specs.Square.{counterKey, keysFrom, rounds, roundsBack, wideKey, wideKeysFrom, word}
 use Rattle.echo.proofs.Laws.Numbers.{sixteen-of-eight}
-use Rattle.echo.specs.Refusals.{unless}
 use Rattle.echo.proofs.Laws.Refusals.{compress-counters, compress-within, done, rounds-counters, rounds-done, rounds-salt, rounds-square}
 use Rattle.echo.proofs.Laws.Refusals.{rounds-within, rounds-words}
 

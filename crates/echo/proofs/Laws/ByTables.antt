@@ -2,8 +2,7 @@
 use mathlib.Core.Path.{_≡_, sym, ap, ap₂, _∙_, subst}
 use mathlib.Core.List.{List, [], _∷_}
 use Prim.Native.Nat.{ℕ, _+_, _*_, _/_, _%_, _^_, _<_, _≤_}
-use native.Mathlib.Nat.{add-mul-div-left, add-mul-mod-self-left, div-div-eq-div-mul, div-eq-of-lt, div-one, mod-eq-of-lt}
-use native.Mathlib.Nat.{mul-assoc, one-mul, zero-add}
+use native.Mathlib.Nat.{add-mul-div-left, add-mul-mod-self-left, div-div-eq-div-mul, div-one, mod-eq-of-lt, mul-assoc, one-mul}
 use native.Mathlib.Omega.{arith}
 use mir.Syntax.{w32}
 use mir.Val.{Fits}
@@ -22,7 +21,7 @@ use Rattle.aes_round.proofs.Laws.Rounds.{round-bytes}
 use Rattle.echo.specs.Numbers.{littleEndian}
 use Rattle.echo.specs.Numbers.{halves}
 use Rattle.echo.specs.Square.{bigMixColumns, bigShiftRows, bigSubWords, rounds, wideKey, wideKeysFrom, word}
-use Rattle.echo.proofs.Laws.Numbers.{wide-key-bytes}
+use Rattle.echo.proofs.Laws.Numbers.{upper-part, wide-key-bytes}
 use Rattle.echo.proofs.Laws.Square.{one-more, rounds-are-squares, sub-words-bytes, sub-words-word, word-bytes}
 use Rattle.echo.proofs.Laws.SquareNumbers.{four-stores, fourBy, numberOf, numbers-of-word, putBy, square-numbers, word-numbers, word-of-four}
 
@@ -41,7 +40,7 @@ key-number κ i most =
 -- the key of a counter's halves: two numbers for each
 module _ (low high : ℕ) (l : low < 2 ^ 64) (h : high < 2 ^ 64) where
   upper : halves low high / 2 ^ 64 ≡ high
-  upper = add-mul-div-left low high (lit< tt) ∙ ap (λ (q : ℕ). q + high) (div-eq-of-lt l) ∙ zero-add high
+  upper = upper-part (2 ^ 64) low high (lit< tt) l
 
   by-numbers : halves low high ≡ low + 2 ^ 32 * (2 ^ 32 * high)
   by-numbers = ap (λ (x : ℕ). low + x) (mul-assoc (2 ^ 32) (2 ^ 32) high)

@@ -60,6 +60,10 @@ pub wide-key-bytes : (κ : ℕ) → Bytes 16 (wideKey κ)
 unfolding wideKey
 wide-key-bytes = little-bytes 16
 
+-- the upper part of a number in two, of which the lower is below b
+pub upper-part : (b x y : ℕ) → 0 < b → x < b → (x + b * y) / b ≡ y
+upper-part b x y p h = add-mul-div-left x y p ∙ ap (λ (q : ℕ). q + y) (div-eq-of-lt h) ∙ zero-add y
+
 -- a number in two parts, the lower one of m bytes
 module _ (m n x y : ℕ) (h : x < 256 ^ m) where
   low-byte : (k : ℕ) → k < m → (x + 256 ^ m * y) / 256 ^ k % 256 ≡ x / 256 ^ k % 256
@@ -79,8 +83,7 @@ module _ (m n x y : ℕ) (h : x < 256 ^ m) where
   high-byte i =
       ap (λ (q : ℕ). (x + 256 ^ m * y) / q) (pow-add 256 m i)
       ∙ sym (div-div-eq-div-mul _ (256 ^ m) (256 ^ i))
-      ∙ ap (λ (q : ℕ). q / 256 ^ i)
-      (add-mul-div-left x y (one-le-pow m 256 (lit< tt)) ∙ ap (λ (q : ℕ). q + y) (div-eq-of-lt h) ∙ zero-add y)
+      ∙ ap (λ (q : ℕ). q / 256 ^ i) (upper-part (256 ^ m) x y (one-le-pow m 256 (lit< tt)) h)
 
   pub little-parts : littleEndian (m + n) (x + 256 ^ m * y) ≡ littleEndian m x ++ littleEndian n y
   unfolding littleEndian

@@ -10,8 +10,8 @@ use Rattle.echo.specs.declared.mode.Mode.{Mode}
 use Rattle.echo.specs.declared.session.Session.{Session}
 use Rattle.echo.specs.Routines.{compressLeaves, compressRefusal, compressWideLeaves, compressWideRefusal}
 use Rattle.echo.specs.Routines.{roundsBackLeave, roundsBackWideLeave, roundsLeave, roundsRefusal, roundsWideLeave, roundsWideRefusal}
-use Rattle.echo.specs.Session.{addAnswer, addRefusal, admitted, blank, digestLeaves, digestRefusal, isSession, openAnswer, openRefusal}
-use Rattle.echo.specs.Session.{readLeaves, readRefusal}
+use Rattle.echo.specs.Session.{addBitsAnswer, addBitsRefusal, admitted, blank, digestBitsLeaves, digestBitsRefusal, digestLeaves, digestRefusal}
+use Rattle.echo.specs.Session.{isSession, openAnswer, openRefusal, readLeaves, readRefusal}
 
 -- the refusal number is k + 1
 module _ (k : ℕ) where
@@ -44,9 +44,10 @@ module _ (k : ℕ) where
   unfolding openAnswer
   a-refused-opening-is-blank mode h salt e = rw e refl
 
-  pub a-refused-piece-changes-nothing : (s : Session) (piece : List ℕ) → addRefusal s (length piece) ≡ suc k → addAnswer s piece .session ≡ s
-  unfolding addAnswer
-  a-refused-piece-changes-nothing s piece e = rw e refl
+  pub a-refused-piece-changes-nothing : (s : Session) (piece : List ℕ) (count : ℕ) → addBitsRefusal s piece count ≡ suc k
+      → addBitsAnswer s piece count .session ≡ s
+  unfolding addBitsAnswer
+  a-refused-piece-changes-nothing s piece count e = rw e refl
 
   pub a-refused-reading-leaves-the-room : (s : Session) (room : List ℕ) → readRefusal s (length room) ≡ suc k → readLeaves s room ≡ room
   unfolding readLeaves
@@ -56,6 +57,11 @@ module _ (k : ℕ) where
       → digestRefusal h (length salt) (length message) (length room) ≡ suc k → digestLeaves mode h salt message room ≡ room
   unfolding digestLeaves
   a-refused-digest-leaves-the-room mode h salt message room e = rw e refl
+
+  pub a-refused-digest-of-bits-leaves-the-room : (mode : Mode) (h : ℕ) (salt message : List ℕ) (count : ℕ) (room : List ℕ)
+      → digestBitsRefusal h (length salt) message count (length room) ≡ suc k → digestBitsLeaves mode h salt message count room ≡ room
+  unfolding digestBitsLeaves
+  a-refused-digest-of-bits-leaves-the-room mode h salt message count room e = rw e refl
 
 pub the-blank-session-is-none : isSession blank ≡ false
 unfolding isSession admitted

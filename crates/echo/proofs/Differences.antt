@@ -12,11 +12,12 @@ use Rattle.aes_round.proofs.Laws.Bytes.{getD-tab, length-tab}
 use Rattle.aes_round.proofs.Laws.Xor.{getD-xor, xor-self, xor-twice, xor-zero-r}
 use Rattle.echo.specs.declared.mode.Mode.the-variants.{DoublePipe}
 use Rattle.echo.specs.declared.session.Session.{Session}
+use Rattle.echo.specs.Bits.{bitsOf, byteBits}
 use Rattle.echo.specs.Compression.{bigFinal, fold, xorSum}
 use Rattle.echo.specs.Families.{blockSize, chainingSize}
 use Rattle.echo.specs.Numbers.{littleEndian}
 use Rattle.echo.specs.Refusals.{unless}
-use Rattle.echo.specs.Session.{admitted, allZero, blank, isSession, limit, made, readLeaves, readRefusal, sessionDigest}
+use Rattle.echo.specs.Session.{admitted, allZero, bitLimit, blank, isSession, made, readLeaves, readRefusal, sessionDigest}
 use Rattle.echo.specs.Square.{counterKey, keysFrom, wideKey, wideKeysFrom}
 use Rattle.echo.proofs.Laws.Joined.{first-part}
 use Rattle.echo.proofs.Laws.Numbers.{wide-key-at}
@@ -90,10 +91,10 @@ past192 = made DoublePipe 256 (replicate 16 0) (replicate 128 0) 0 (replicate 19
 abbrev unlooked : Session → Bool
 unlooked s =
     admitted (s .bits)
-    && (leb (s .taken) limit
-    && (allZero (drop (s .taken % blockSize (s .mode) (s .bits)) (take 192 (s .waiting))) && allZero (drop (chainingSize (s .mode) (s .bits)) (s .chaining))))
+    && (leb (s .taken) bitLimit
+    && (allZero (drop (s .taken % (8 * blockSize (s .mode) (s .bits))) (bitsOf (take 192 (s .waiting)))) && allZero (drop (chainingSize (s .mode) (s .bits)) (s .chaining))))
 
 -- an opened session in double-pipe but for one byte past 192
 pub set-byte-past-192-differs : isSession past192 ≡ unlooked past192 → ⊥
-unfolding isSession admitted allZero blockSize chainingSize
+unfolding isSession admitted allZero blockSize chainingSize bitsOf byteBits
 set-byte-past-192-differs e = true≢false (sym e)

@@ -1,4 +1,7 @@
 pub mod Joined
+pub mod Zeros
+pub mod Bits
+pub mod BitTests
 pub mod Numbers
 pub mod Counter
 pub mod Placed
@@ -25,6 +28,7 @@ pub mod Stream
 pub mod Folded
 pub mod SinglePipe
 pub mod Padded
+pub mod WholeBytes
 pub mod States
 pub mod Kept
 pub mod Continued

@@ -13,8 +13,10 @@ use Rattle.echo.proofs.compression.compress_wide.Reads as compress_wide
 use Rattle.echo.proofs.session.Session.«open».Reads as opening
 use Rattle.echo.proofs.session.Session.is_session.Reads as is_session
 use Rattle.echo.proofs.session.Session.add.Reads as add
+use Rattle.echo.proofs.session.Session.add_bits.Reads as add_bits
 use Rattle.echo.proofs.session.Session.read.Reads as read
 use Rattle.echo.proofs.digest_at_once.digest.Reads as digest
+use Rattle.echo.proofs.digest_at_once.digest_bits.Reads as digest_bits
 use Rattle.echo.proofs.refusals.digest_refusal.Reads as digest_refusal
 
 pub rounds-has-one-answer : (κs : _) (a : _) (r r′ : _) (s s′ : _) → rounds.Post κs a r s → rounds.Post κs a r′ s′ → (r ≡ r′) × (now (s .0) ≡ now (s′ .0))
@@ -53,12 +55,19 @@ is-session-has-one-answer κs a r r′ s s′ p q = p ∙ sym q
 pub add-has-one-answer : (κs : _) (a : _) (r r′ : _) (s s′ : _) → add.Post κs a r s → add.Post κs a r′ s′ → r ≡ r′
 add-has-one-answer κs a r r′ s s′ p q = p ∙ sym q
 
+pub add-bits-has-one-answer : (κs : _) (a : _) (r r′ : _) (s s′ : _) → add_bits.Post κs a r s → add_bits.Post κs a r′ s′ → r ≡ r′
+add-bits-has-one-answer κs a r r′ s s′ p q = p ∙ sym q
+
 pub read-has-one-answer : (κs : _) (a : _) (r r′ : _) (s s′ : _) → read.Post κs a r s → read.Post κs a r′ s′ → (r ≡ r′) × (now (s .1 .0) ≡ now (s′ .1 .0))
 read-has-one-answer κs a r r′ s s′ p q = (p .0 ∙ sym (q .0), p .1 ∙ sym (q .1))
 
 pub digest-has-one-answer : (κs : _) (a : _) (r r′ : _) (s s′ : _) → digest.Post κs a r s → digest.Post κs a r′ s′
     → (r ≡ r′) × (now (s .1 .1 .1 .1 .0) ≡ now (s′ .1 .1 .1 .1 .0))
 digest-has-one-answer κs a r r′ s s′ p q = (p .0 ∙ sym (q .0), p .1 ∙ sym (q .1))
+
+pub digest-bits-has-one-answer : (κs : _) (a : _) (r r′ : _) (s s′ : _) → digest_bits.Post κs a r s → digest_bits.Post κs a r′ s′
+    → (r ≡ r′) × (now (s .1 .1 .1 .1 .1 .0) ≡ now (s′ .1 .1 .1 .1 .1 .0))
+digest-bits-has-one-answer κs a r r′ s s′ p q = (p .0 ∙ sym (q .0), p .1 ∙ sym (q .1))
 
 pub digest-refusal-has-one-answer : (κs : _) (a : _) (r r′ : _) (s s′ : _) → digest_refusal.Post κs a r s → digest_refusal.Post κs a r′ s′ → r ≡ r′
 digest-refusal-has-one-answer κs a r r′ s s′ p q = p ∙ sym q

@@ -1,9 +1,10 @@
 -- The theorems of this crate that the pages quote, each closed: what it assumes stands in its statement. Assumes nothing.
-use mathlib.Core.Path.{_≡_}
+use mathlib.Core.Path.{_≡_, refl, sym}
 use mathlib.Core.Bool.{false, true}
+use mathlib.Core.Logic.{_⊎_}
 use mathlib.Core.List.{List, [], _∷_, _++_}
-use Prim.Native.Nat.{ℕ, suc, _+_, _*_, _-_, _/_, _%_, _^_, _<_, _≤_}
-use lib.Dec.{lit<}
+use Prim.Native.Nat.{ℕ, suc, _+_, _*_, _-_, _/_, _%_, _^_, _<_, _≤_, min}
+use lib.Dec.{lit<, ltb}
 use lib.ListN.{drop, getD, length, replicate, take}
 use Rattle.aes_round.specs.Bytes.{Bytes, tab, xorBytes}
 use Rattle.aes_round.specs.ByTables.{mixNumbers, rowTable, tableRound}
@@ -16,9 +17,10 @@ use Rattle.aes_round.proofs.Theorems as aes-round
 use Rattle.echo.specs.declared.mode.Mode.{Mode}
 use Rattle.echo.specs.declared.mode.Mode.the-variants.{DoublePipe, SinglePipe}
 use Rattle.echo.specs.declared.session.Session.{Session}
+use Rattle.echo.specs.Bits.{bitsOf, byteBits, packed}
 use Rattle.echo.specs.Compression.{compress, fold}
-use Rattle.echo.specs.Digest.{block, blockCount, counterAt, digestOf, iterate}
-use Rattle.echo.specs.Families.{blockSize, chainingSize, modeNumber, roundCount}
+use Rattle.echo.specs.Digest.{bitDigestOf, block, blockCount, counterAt, digestOf, initial, iterate}
+use Rattle.echo.specs.Families.{blockSize, chainingSize, either, modeNumber, roundCount}
 use Rattle.echo.specs.Numbers.{halves, littleEndian}
 use Rattle.echo.specs.Padding.{pad, padding}
 use Rattle.echo.specs.Pieces.{addAll, joined}
@@ -26,16 +28,23 @@ use Rattle.echo.specs.Routines.{compressLeaves, compressRefusal, compres
 use Rattle.echo.specs.Routines.{roundsBackLeave, roundsBackWideLeave, roundsLeave, roundsRefusal, roundsWideLeave, roundsWideRefusal}
 use Rattle.echo.specs.Session.{
   addAnswer,
+  addBits,
+  addBitsAnswer,
+  addBitsRefusal,
   addBytes,
-  addRefusal,
   admitted,
+  allZero,
+  bitLimit,
   blank,
   blockOf,
   chainingOf,
+  digestBitsLeaves,
+  digestBitsRefusal,
   digestLeaves,
   digestRefusal,
   isSession,
   limit,
+  msizeOf,
   openAnswer,
   openRefusal,
   opened,
@@ -47,6 +56,7 @@ use Rattle.echo.specs.Session.{
 use Rattle.echo.specs.SinglePipe.{compress51, compress52}
 use Rattle.echo.specs.Square.{bigMixColumns, bigShiftRows, bigSubWords, counterKey, keysFrom, rounds, roundsBack, wideKey, wideKeysFrom, word}
 use Rattle.echo.proofs.ARefusalChangesNothing as refusing
+use Rattle.echo.proofs.Laws.AtOnce as at-once
 use Rattle.echo.proofs.Laws.ByTables as by-tables
 use Rattle.echo.proofs.Laws.Continued as continued
 use Rattle.echo.proofs.Laws.Folded as folded
@@ -54,8 +64,11 @@ use Rattle.echo.proofs.Laws.Marked as marked
 use Rattle.echo.proofs.Laws.MixedNumbers as mixed-numbers
 use Rattle.echo.proofs.Laws.Numbers as numbers-as-bytes
 use Rattle.echo.proofs.Laws.Padded as padded
+use Rattle.echo.proofs.Laws.Refusals as refusals
+use Rattle.echo.proofs.Laws.Sessions as sessions
 use Rattle.echo.proofs.Laws.SinglePipe as single-pipe
 use Rattle.echo.proofs.Laws.UpperHalfZero as upper-half-zero
+use Rattle.echo.proofs.Laws.WholeBytes as whole-bytes
 use Rattle.echo.proofs.Laws.Words as words
 use Rattle.echo.proofs.NothingIsLost as mixing
 use Rattle.echo.proofs.TheDigest as digest
@@ -93,9 +106,10 @@ a-refused-opening-is-blank = refusing.a-refused-opening-is-blank
 pub the-blank-session-is-none : isSession blank ≡ false
 the-blank-session-is-none = refusing.the-blank-session-is-none
 
-pub a-refused-piece-changes-nothing : (k : ℕ) (s : Session) (piece : List ℕ)
-    → addRefusal s (length piece) ≡ suc k
-    → addAnswer s piece .session ≡ s
+-- in bits; bytes are eight of them each (`whole-bytes-are-eight-bits-each`)
+pub a-refused-piece-changes-nothing : (k : ℕ) (s : Session) (piece : List ℕ) (count : ℕ)
+    → addBitsRefusal s piece count ≡ suc k
+    → addBitsAnswer s piece count .session ≡ s
 a-refused-piece-changes-nothing = refusing.a-refused-piece-changes-nothing
 
 pub a-refused-reading-leaves-the-room : (k : ℕ) (s : Session) (room : List ℕ) → readRefusal s (length room) ≡ suc k → readLeaves s room ≡ room
@@ -109,8 +123,29 @@ pub a-refused-digest-leaves-the-room : (k : ℕ) (mode : Mode) (h : ℕ) (salt m
     → digestLeaves mode h salt message room ≡ room
 a-refused-digest-leaves-the-room = refusing.a-refused-digest-leaves-the-room
 
+pub a-refused-digest-of-bits-leaves-the-room : (k : ℕ) (mode : Mode) (h : ℕ) (salt message : List ℕ) (count : ℕ) (room : List ℕ)
+    → digestBitsRefusal h (length salt) message count (length room) ≡ suc k
+    → digestBitsLeaves mode h salt message count room ≡ room
+a-refused-digest-of-bits-leaves-the-room = refusing.a-refused-digest-of-bits-leaves-the-room
+
 -- ---- the digest is the paper's
 
+-- pieces of whole bytes, and a last one of so many bits, in the bytes that these take, unused bits zero
+pub however-cut-the-digest-is-the-papers-in-bits : (mode : Mode) (h : ℕ) (salt : List ℕ) (pieces : List (List ℕ)) (last : List ℕ) (count : ℕ) (room : List ℕ)
+    → admitted h ≡ true
+    → length salt ≡ 16
+    → length last ≡ (count + 7) / 8
+    → allZero (drop count (bitsOf last)) ≡ true
+    → 8 * length (joined pieces) + count ≤ bitLimit
+    → h / 8 ≤ length room
+    → let ended = addBitsAnswer (addAll (openAnswer mode h salt .session) pieces) last count in
+    (ended .refusal ≡ 0)
+    × (readAnswer (ended .session) (length room) .refusal ≡ 0)
+    × (readLeaves (ended .session) room ≡ bitDigestOf mode h salt (bitsOf (joined pieces) ++ take count (bitsOf last)) ++ drop (h / 8) room)
+however-cut-the-digest-is-the-papers-in-bits mode h salt pieces last count room a l s z m r =
+    digest.however-cut-the-digest-is-the-papers-in-bits mode h salt a l pieces last count (record { size = s; clear = z }) m room r
+
+-- of whole bytes alone
 pub however-cut-the-digest-is-the-papers : (mode : Mode) (h : ℕ) (salt : List ℕ) (pieces : List (List ℕ)) (room : List ℕ)
     → admitted h ≡ true
     → length salt ≡ 16
@@ -130,6 +165,18 @@ pub every-piece-is-taken : (mode : Mode) (h : ℕ) (salt : List ℕ) (before : L
     → addAnswer (addAll (openAnswer mode h salt .session) before) piece .refusal ≡ 0
 every-piece-is-taken mode h salt before piece after a l m = digest.every-piece-is-taken mode h salt a l before piece after m
 
+pub at-once-is-the-digest-in-bits : (mode : Mode) (h : ℕ) (salt message : List ℕ) (count : ℕ) (room : List ℕ)
+    → admitted h ≡ true
+    → length salt ≡ 16
+    → length message ≡ (count + 7) / 8
+    → allZero (drop count (bitsOf message)) ≡ true
+    → count ≤ bitLimit
+    → h / 8 ≤ length room
+    → (digestBitsRefusal h (length salt) message count (length room) ≡ 0)
+    × (digestBitsLeaves mode h salt message count room ≡ bitDigestOf mode h salt (take count (bitsOf message)) ++ drop (h / 8) room)
+at-once-is-the-digest-in-bits mode h salt message count room a l s z m r =
+    digest.at-once-is-the-digest-in-bits mode h salt a l message count room (record { size = s; clear = z }) m r
+
 pub at-once-is-the-digest : (mode : Mode) (h : ℕ) (salt message room : List ℕ)
     → admitted h ≡ true
     → length salt ≡ 16
@@ -139,6 +186,20 @@ pub at-once-is-the-digest : (mode : Mode) (h : ℕ) (salt message room : List �
     × (digestLeaves mode h salt message room ≡ digestOf mode h salt message ++ drop (h / 8) room)
 at-once-is-the-digest mode h salt message room a l m r = digest.at-once-is-the-digest mode h salt a l message room m r
 
+-- the session of k bits of m, with j bits of a piece behind them: all of m are whole bytes, or the piece is empty
+pub a-piece-of-bits-is-joined : (mode : Mode) (h : ℕ) (salt m : List ℕ) (k : ℕ) (piece : List ℕ) (j : ℕ)
+    → admitted h ≡ true
+    → length salt ≡ 16
+    → length m ≡ (k + 7) / 8
+    → allZero (drop k (bitsOf m)) ≡ true
+    → length piece ≡ (j + 7) / 8
+    → allZero (drop j (bitsOf piece)) ≡ true
+    → (k % 8 ≡ 0) ⊎ (j ≡ 0)
+    → k + j ≤ bitLimit
+    → addBitsAnswer (addBits (opened mode h salt) m k) piece j ≡ record { refusal = 0; session = addBits (opened mode h salt) (m ++ piece) (k + j) }
+a-piece-of-bits-is-joined mode h salt m k piece j a l s y t z one fits =
+    digest.a-piece-of-bits-is-joined mode h salt a l m k (record { size = s; clear = y }) piece j (record { size = t; clear = z }) one fits
+
 pub a-piece-is-joined : (mode : Mode) (h : ℕ) (salt m piece : List ℕ)
     → admitted h ≡ true
     → length salt ≡ 16
@@ -146,36 +207,91 @@ pub a-piece-is-joined : (mode : Mode) (h : ℕ) (salt m piece : List ℕ)
     → addAnswer (addBytes (opened mode h salt) m) piece ≡ record { refusal = 0; session = addBytes (opened mode h salt) (m ++ piece) }
 a-piece-is-joined mode h salt m piece a l f = digest.a-piece-is-joined mode h salt a l m piece f
 
+-- any record, a session or none; and a session takes it, whether it ends in a part byte or not
 pub an-empty-piece-changes-nothing : (s : Session) → addAnswer s [] .session ≡ s
 an-empty-piece-changes-nothing = digest.an-empty-piece-changes-nothing
 
--- any record that is a session, whether an opening made it or not; `chaining` and `waiting` are arrays of these lengths
-pub every-session-continues-the-iteration : (s : Session) (piece room : List ℕ)
-    → isSession s ≡ true
+pub an-empty-piece-is-taken : (s : Session) → isSession s ≡ true → addAnswer s [] .refusal ≡ 0
+an-empty-piece-is-taken = digest.an-empty-piece-is-taken
+
+-- any record that is a session, whether an opening made it or not, and a piece that it takes; `chaining` and `waiting` are arrays of these lengths
+pub every-session-continues-the-iteration : (s : Session) (piece : List ℕ) (count : ℕ) (room : List ℕ)
+    → addBitsRefusal s piece count ≡ 0
     → length (s .chaining) ≡ 128
     → length (s .waiting) ≡ 224
-    → s .taken + length piece ≤ limit
     → s .bits / 8 ≤ length room
-    → (addAnswer s piece .refusal ≡ 0)
-    × (isSession (addAnswer s piece .session) ≡ true)
-    × (readAnswer (addAnswer s piece .session) (length room) .refusal ≡ 0)
-    × (readLeaves (addAnswer s piece .session) room
+    → let L = s .taken + count in
+    let added = addBitsAnswer s piece count .session in
+    (isSession added ≡ true)
+    × (readAnswer added (length room) .refusal ≡ 0)
+    × (readLeaves added room
     ≡ take (s .bits / 8)
     (iterate (chainingOf s) (roundsOf s) (s .salt)
     (take (chainingOf s) (s .chaining))
     (block (blockOf s)
-    (take (s .taken % blockOf s) (s .waiting) ++ (piece ++ padding (blockOf s) (s .bits) (s .taken + length piece))))
-    (λ i. counterAt (blockOf s) (s .taken + length piece) (s .taken / blockOf s + i))
-    (blockCount (blockOf s) (s .taken + length piece) - s .taken / blockOf s))
+    (packed (take (s .taken % msizeOf s) (bitsOf (s .waiting)) ++ (take count (bitsOf piece) ++ padding (msizeOf s) (s .bits) L))))
+    (λ i. counterAt (msizeOf s) L (s .taken / msizeOf s + i))
+    (blockCount (msizeOf s) L - s .taken / msizeOf s))
     ++ drop (s .bits / 8) room)
-every-session-continues-the-iteration s piece room is c w l r = continued.continues s is c w piece l room r
+every-session-continues-the-iteration s piece count room taken c w r =
+    let A = sessions.addable s piece count taken in
+    let C = continued.continues s (A .is) c w piece count A room r in (C .1, C .2, C .3)
 
-pub the-padded-message-fills-its-blocks : (b h : ℕ) (m : List ℕ) → 0 < b → length (pad b h m) ≡ b * blockCount b (length m)
-the-padded-message-fills-its-blocks b h m p = padded.pad-fills b p h m
+-- ---- padding
 
--- z zero bytes would fill blocks too, between the byte 80 and the eighteen bytes of the lengths
-pub no-fewer-zeros-would-do : (b n z : ℕ) → 0 < b → (n + 1 + z + 18) % b ≡ 0 → b - (n + 18) % b - 1 ≤ z
-no-fewer-zeros-would-do b n z p e = padded.no-fewer-zeros b p n z e
+-- in bits, whatever the block size
+pub the-padded-message-fills-its-blocks : (msize h : ℕ) (m : List ℕ) → 0 < msize → length (pad msize h m) ≡ msize * blockCount msize (length m)
+the-padded-message-fills-its-blocks msize h m p = padded.pad-fills msize p h m
+
+-- z zero bits would fill blocks too, between the "1" and the 144 bits of the lengths
+pub no-fewer-zeros-would-do : (msize L z : ℕ) → 0 < msize → (L + 1 + z + 144) % msize ≡ 0 → msize - (L + 144) % msize - 1 ≤ z
+no-fewer-zeros-would-do msize L z p e = padded.no-fewer-zeros msize p L z e
+
+-- in bytes: the message m; the marking bit in the part byte x, of which r bits count; zeros; the lengths
+pub the-padding-of-a-part-byte : (b h : ℕ) (m : List ℕ) (x r : ℕ)
+    → 0 < b
+    → r < 8
+    → allZero (drop r (byteBits x)) ≡ true
+    → packed (pad (8 * b) h (bitsOf m ++ take r (byteBits x)))
+    ≡ m ++ ((x + 2 ^ (7 - r)) ∷ (replicate (b - (length m + 18) % b - 1) 0 ++ (littleEndian 2 h ++ littleEndian 16 (8 * length m + r))))
+the-padding-of-a-part-byte b h m x r p few z = padded.pad-part b p h m x r (record { few = few; clear = z })
+
+pub the-padding-of-whole-bytes : (b h : ℕ) (m : List ℕ)
+    → 0 < b
+    → packed (pad (8 * b) h (bitsOf m))
+    ≡ m ++ (0x80 ∷ (replicate (b - (length m + 18) % b - 1) 0 ++ (littleEndian 2 h ++ littleEndian 16 (8 * length m))))
+the-padding-of-whole-bytes b h m p = padded.pad-bytes b p h m
+
+-- the message of n whole bytes keeps its digest: padding, counters and number of blocks as they were stated in bytes
+pub whole-bytes-keep-their-digests : (mode : Mode) (h : ℕ) (salt message : List ℕ)
+    → let b = blockSize mode h in
+    let c = chainingSize mode h in
+    let n = length message in
+    digestOf mode h salt message
+    ≡ take (h / 8)
+    (iterate c (roundCount mode c) salt (initial c h)
+    (block b (message ++ (0x80 ∷ (replicate (b - (n + 18) % b - 1) 0 ++ (littleEndian 2 h ++ littleEndian 16 (8 * n))))))
+    (λ i. either (ltb (b * i) n) (8 * min n (b * i + b)) 0) ((n + 18) / b + 1))
+whole-bytes-keep-their-digests = whole-bytes.digest-bytes
+
+-- the routines for bytes are those for bits at eight times the length
+pub whole-bytes-are-eight-bits-each : (mode : Mode) (h : ℕ) (salt message room : List ℕ) (s : Session)
+    → (digestRefusal h (length salt) (length message) (length room) ≡ digestBitsRefusal h (length salt) message (8 * length message) (length room))
+    × (digestLeaves mode h salt message room ≡ digestBitsLeaves mode h salt message (8 * length message) room)
+    × (addAnswer s message ≡ addBitsAnswer s message (8 * length message))
+unfolding addAnswer
+whole-bytes-are-eight-bits-each mode h salt message room s =
+    (sym (refusals.whole-refusal h (length salt) message (length room)), sym (at-once.whole-leaves mode h salt message room), refl)
+
+-- the last length that one block holds with its padding, and its successor; and no zero stands in the former's padding
+pub up-to-1391-bits-fit-one-block : Hold
+    (((blockCount (8 * blockSize DoublePipe 256) 1391 ∷ blockCount (8 * blockSize DoublePipe 256) 1392 ∷ []) gives (1 ∷ 2 ∷ []))
+    ∷ ((blockCount (8 * blockSize DoublePipe 512) 879 ∷ blockCount (8 * blockSize DoublePipe 512) 880 ∷ []) gives (1 ∷ 2 ∷ []))
+    ∷ ((blockCount (8 * blockSize SinglePipe 256) 1647 ∷ blockCount (8 * blockSize SinglePipe 256) 1648 ∷ []) gives (1 ∷ 2 ∷ []))
+    ∷ ((blockCount (8 * blockSize SinglePipe 512) 1391 ∷ blockCount (8 * blockSize SinglePipe 512) 1392 ∷ []) gives (1 ∷ 2 ∷ []))
+    ∷ ((padding (8 * blockSize DoublePipe 256) 256 1391) gives (1 ∷ (bitsOf (littleEndian 2 256) ++ bitsOf (littleEndian 16 1391))))
+    ∷ [])
+up-to-1391-bits-fit-one-block = marked.last-of-one-block
 
 -- substitution, doubling and mix; row shift, of any square s; counters of all blocks; padding
 pub the-marked-examples-hold : (s : List ℕ) → Hold
@@ -187,10 +303,10 @@ pub the-marked-examples-hold : (s : List ℕ) → Hold
     ∷ (word (bigShiftRows s) 5 gives word s 9)
     ∷ (word (bigShiftRows s) 13 gives word s 1)
     ∷ (word (bigShiftRows s) 3 gives word s 15)
-    ∷ (tab (blockCount (blockSize DoublePipe 256) 174) (counterAt (blockSize DoublePipe 256) 174) gives (1392 ∷ 0 ∷ []))
-    ∷ (tab (blockCount (blockSize DoublePipe 256) 192) (counterAt (blockSize DoublePipe 256) 192) gives (1536 ∷ 0 ∷ []))
-    ∷ (pad (blockSize DoublePipe 256) 256 [] gives (0x80 ∷ (replicate 173 0 ++ (0x00 ∷ 0x01 ∷ replicate 16 0))))
-    ∷ (pad (blockSize DoublePipe 256) 256 (0x61 ∷ 0x62 ∷ 0x63 ∷ [])
+    ∷ (tab (blockCount (8 * blockSize DoublePipe 256) (8 * 174)) (counterAt (8 * blockSize DoublePipe 256) (8 * 174)) gives (1392 ∷ 0 ∷ []))
+    ∷ (tab (blockCount (8 * blockSize DoublePipe 256) (8 * 192)) (counterAt (8 * blockSize DoublePipe 256) (8 * 192)) gives (1536 ∷ 0 ∷ []))
+    ∷ (packed (pad (8 * blockSize DoublePipe 256) 256 (bitsOf [])) gives (0x80 ∷ (replicate 173 0 ++ (0x00 ∷ 0x01 ∷ replicate 16 0))))
+    ∷ (packed (pad (8 * blockSize DoublePipe 256) 256 (bitsOf (0x61 ∷ 0x62 ∷ 0x63 ∷ [])))
     gives (0x61 ∷ 0x62 ∷ 0x63 ∷ 0x80 ∷ (replicate 170 0 ++ (0x00 ∷ 0x01 ∷ 0x18 ∷ replicate 15 0))))
     ∷ [])
 the-marked-examples-hold s =
@@ -421,7 +537,7 @@ pub the-sizes-of-both-modes : Hold
     ∷ ((chainingSize DoublePipe 257 ∷ blockSize DoublePipe 257 ∷ roundCount DoublePipe (chainingSize DoublePipe 257) ∷ []) gives (128 ∷ 128 ∷ 10 ∷ []))
     ∷ ((chainingSize SinglePipe 256 ∷ blockSize SinglePipe 256 ∷ roundCount SinglePipe (chainingSize SinglePipe 256) ∷ []) gives (32 ∷ 224 ∷ 8 ∷ []))
     ∷ ((chainingSize SinglePipe 257 ∷ blockSize SinglePipe 257 ∷ roundCount SinglePipe (chainingSize SinglePipe 257) ∷ []) gives (64 ∷ 192 ∷ 10 ∷ []))
-    ∷ ((blockCount (blockSize SinglePipe 256) 205 ∷ blockCount (blockSize SinglePipe 256) 206 ∷ []) gives (1 ∷ 2 ∷ []))
-    ∷ ((blockCount (blockSize SinglePipe 512) 173 ∷ blockCount (blockSize SinglePipe 512) 174 ∷ []) gives (1 ∷ 2 ∷ []))
+    ∷ ((blockCount (8 * blockSize SinglePipe 256) (8 * 205) ∷ blockCount (8 * blockSize SinglePipe 256) (8 * 206) ∷ []) gives (1 ∷ 2 ∷ []))
+    ∷ ((blockCount (8 * blockSize SinglePipe 512) (8 * 173) ∷ blockCount (8 * blockSize SinglePipe 512) (8 * 174) ∷ []) gives (1 ∷ 2 ∷ []))
     ∷ [])
 the-sizes-of-both-modes = marked.sizes-of-both-modes

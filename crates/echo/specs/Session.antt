@@ -3,19 +3,24 @@ use mathlib.Core.Bool.{Bool, true, not, _&&_}
 use mathlib.Core.List.{List, [], _∷_, _++_}
 use Prim.Native.Nat.{ℕ, _+_, _*_, _-_, _/_, _%_, _^_}
 use lib.Dec.{eqb, leb, ltb}
-use lib.ListN.{drop, length, replicate, set, take}
+use lib.ListN.{drop, getD, length, replicate, set, take}
 use Rattle.echo.specs.declared.mode.Mode.{Mode}
 use Rattle.echo.specs.declared.mode.Mode.the-variants.{DoublePipe}
 use Rattle.echo.specs.declared.session.Answer.{Answer}
 use Rattle.echo.specs.declared.session.Session.{Session}
+use Rattle.echo.specs.Bits.{bitsOf, packed}
 use Rattle.echo.specs.Compression.{compress}
-use Rattle.echo.specs.Digest.{block, blockCount, counterAt, digestOf, initial, iterate}
+use Rattle.echo.specs.Digest.{bitDigestOf, block, blockCount, counterAt, digestOf, initial, iterate}
 use Rattle.echo.specs.Families.{blockSize, chainingSize, either, roundCount}
 use Rattle.echo.specs.Padding.{padding}
 use Rattle.echo.specs.Refusals.{_when_, firstOf, noSalt, unless}
 use Rattle.echo.specs.Square.{keysFrom}
 
--- the most bytes of a message: its bit count stays below 2^64 - 160
+-- the most bits of a message: below 2^64 - 160
+abbrev pub bitLimit : ℕ
+bitLimit = 2 ^ 64 - 161
+
+-- the most bytes within that
 abbrev pub limit : ℕ
 limit = 2 ^ 61 - 21
 
@@ -23,7 +28,7 @@ limit = 2 ^ 61 - 21
 unfoldable pub admitted : ℕ → Bool
 admitted h = leb 128 h && (leb h 512 && eqb (h % 8) 0)
 
--- every byte of a list is zero
+-- every byte, or bit, of a list is zero
 unfoldable pub allZero : List ℕ → Bool
 allZero [] = true
 allZero (x ∷ xs) = eqb x 0 && allZero xs
@@ -35,16 +40,20 @@ chainingOf s = chainingSize (s .mode) (s .bits)
 abbrev pub blockOf : Session → ℕ
 blockOf s = blockSize (s .mode) (s .bits)
 
+-- MSIZE, in bits
+abbrev pub msizeOf : Session → ℕ
+msizeOf s = 8 * blockOf s
+
 abbrev pub roundsOf : Session → ℕ
 roundsOf s = roundCount (s .mode) (chainingOf s)
 
--- h is admitted, the count is at most the limit, waiting bytes beyond those in use are zero, and so is the chaining room that mode and h
+-- h is admitted, the count of bits is at most the limit, waiting bits beyond those in use are zero, and so is the chaining room that mode and h
 -- don't use
 unfoldable pub isSession : Session → Bool
 isSession s =
     admitted (s .bits)
-    && (leb (s .taken) limit
-    && (allZero (drop (s .taken % blockOf s) (s .waiting)) && allZero (drop (chainingOf s) (s .chaining))))
+    && (leb (s .taken) bitLimit
+    && (allZero (drop (s .taken % msizeOf s) (bitsOf (s .waiting))) && allZero (drop (chainingOf s) (s .chaining))))
 
 -- a session of its parts, for contracts of private functions
 abbrev pub made : Mode → ℕ → List ℕ → List ℕ → ℕ → List ℕ → Session
@@ -78,7 +87,7 @@ openAnswer mode h salt =
 
 -- the waiting block with one byte more, behind those in use
 abbrev pub waitingWith : Session → ℕ → List ℕ
-waitingWith s x = set (s .waiting) (s .taken % blockOf s) x
+waitingWith s x = set (s .waiting) (s .taken / 8 % blockOf s) x
 
 -- chaining room whose variable has taken a block with a counter
 abbrev pub compressed : Mode → ℕ → List ℕ → List ℕ → ℕ → List ℕ → List ℕ
@@ -92,40 +101,70 @@ filledBy s x = record {
   mode = s .mode;
   bits = s .bits;
   salt = s .salt;
-  chaining = compressed (s .mode) (s .bits) (s .salt) (s .chaining) (8 * (s .taken + 1)) (take (blockOf s) (waitingWith s x));
-  taken = s .taken + 1;
+  chaining = compressed (s .mode) (s .bits) (s .salt) (s .chaining) (s .taken + 8) (take (blockOf s) (waitingWith s x));
+  taken = s .taken + 8;
   waiting = replicate 224 0;
 }
 
-abbrev pub longerBy : Session → ℕ → Session
-longerBy s x = record { mode = s .mode; bits = s .bits; salt = s .salt; chaining = s .chaining; taken = s .taken + 1; waiting = waitingWith s x }
+-- a byte of which so many bits count, and that fills no block
+abbrev pub longerBy : Session → ℕ → ℕ → Session
+longerBy s x count =
+    record { mode = s .mode; bits = s .bits; salt = s .salt; chaining = s .chaining; taken = s .taken + count; waiting = waitingWith s x }
 
 -- a block is compressed as soon as it is full
 unfoldable pub addByte : Session → ℕ → Session
-addByte s x = either (eqb (s .taken % blockOf s + 1) (blockOf s)) (filledBy s x) (longerBy s x)
+addByte s x = either (eqb (s .taken / 8 % blockOf s + 1) (blockOf s)) (filledBy s x) (longerBy s x 8)
 
 unfoldable pub addBytes : Session → List ℕ → Session
 addBytes s [] = s
 addBytes s (x ∷ xs) = addBytes (addByte s x) xs
 
-unfoldable pub addRefusal : Session → ℕ → ℕ
-addRefusal s pieceLength = firstOf ((3 when not (isSession s)) ∷ (4 when ltb limit (s .taken + pieceLength)) ∷ [])
+-- a part byte, of fewer than eight bits; none where they are 0
+unfoldable pub addPart : Session → ℕ → ℕ → Session
+addPart s x count = either (eqb count 0) s (longerBy s x count)
 
+-- so many bits of a piece: its whole bytes, and then the part byte
+unfoldable pub addBits : Session → List ℕ → ℕ → Session
+addBits s piece count = addPart (addBytes s (take (count / 8) piece)) (getD piece (count / 8) 0) (count % 8)
+
+-- 6: the bytes are not the bit count over 8, rounded up
+abbrev pub otherSize : ℕ → ℕ → Bool
+otherSize bytes count = not (eqb bytes ((count + 7) / 8))
+
+-- 17: a bit is set below the last one used
+abbrev pub setBelow : List ℕ → ℕ → Bool
+setBelow bytes count = not (allZero (drop count (bitsOf bytes)))
+
+unfoldable pub addBitsRefusal : Session → List ℕ → ℕ → ℕ
+addBitsRefusal s piece count =
+    firstOf
+    ((3 when not (isSession s))
+    ∷ (4 when ltb bitLimit (s .taken + count))
+    ∷ (6 when otherSize (length piece) count)
+    ∷ (16 when not (eqb (s .taken % 8) 0) && not (eqb count 0))
+    ∷ (17 when setBelow piece count)
+    ∷ [])
+
+unfoldable pub addBitsAnswer : Session → List ℕ → ℕ → Answer
+addBitsAnswer s piece count =
+    let refusal = addBitsRefusal s piece count in
+    record { refusal = refusal; session = unless refusal (addBits s piece count) s }
+
+-- whole bytes: eight bits each
 unfoldable pub addAnswer : Session → List ℕ → Answer
-addAnswer s piece =
-    let refusal = addRefusal s (length piece) in
-    record { refusal = refusal; session = unless refusal (addBytes s piece) s }
+addAnswer s piece = addBitsAnswer s piece (8 * length piece)
 
 -- ---- reading
 
--- the paper's iteration, continued from the chaining value, n and the waiting bytes, over the blocks that are left
+-- the paper's iteration, continued from the chaining value, the count and the waiting bits, over the blocks that are left
 unfoldable pub finalChaining : Session → List ℕ
 finalChaining s =
-    let b = blockOf s in
+    let msize = msizeOf s in
     let c = chainingOf s in
-    let n = s .taken in
-    iterate c (roundsOf s) (s .salt) (take c (s .chaining)) (block b (take (n % b) (s .waiting) ++ padding b (s .bits) n)) (λ i. counterAt b n (n / b + i))
-    (blockCount b n - n / b)
+    let L = s .taken in
+    iterate c (roundsOf s) (s .salt) (take c (s .chaining))
+    (block (blockOf s) (packed (take (L % msize) (bitsOf (s .waiting)) ++ padding msize (s .bits) L))) (λ i. counterAt msize L (L / msize + i))
+    (blockCount msize L - L / msize)
 
 unfoldable pub sessionDigest : Session → List ℕ
 sessionDigest s = take (s .bits / 8) (finalChaining s)
@@ -142,6 +181,24 @@ readLeaves s room = unless (readRefusal s (length room)) (sessionDigest s ++ dro
 
 -- ---- the digest at once
 
+unfoldable pub digestBitsRefusal : ℕ → ℕ → List ℕ → ℕ → ℕ → ℕ
+digestBitsRefusal h saltLength message count room =
+    firstOf
+    ((1 when not (admitted h))
+    ∷ (2 when noSalt saltLength)
+    ∷ (4 when ltb bitLimit count)
+    ∷ (5 when ltb room (h / 8))
+    ∷ (6 when otherSize (length message) count)
+    ∷ (17 when setBelow message count)
+    ∷ [])
+
+-- of so many bits of a message
+unfoldable pub digestBitsLeaves : Mode → ℕ → List ℕ → List ℕ → ℕ → List ℕ → List ℕ
+digestBitsLeaves mode h salt message count room =
+    unless (digestBitsRefusal h (length salt) message count (length room))
+    (bitDigestOf mode h salt (take count (bitsOf message)) ++ drop (h / 8) room) room
+
+-- whole bytes: eight bits each, of which the numbers 6 and 17 never come
 unfoldable pub digestRefusal : ℕ → ℕ → ℕ → ℕ → ℕ
 digestRefusal h saltLength messageLength room =
     firstOf

@@ -1,4 +1,5 @@
 // ECHO 2.0: the rounds of its square, forward and backward, compression, sessions and digests.
+mod bits;
 mod compression;
 mod counter;
 mod digest_at_once;
@@ -21,6 +22,7 @@ mod waiting;
 pub use compression::compress;
 pub use compression::compress_wide;
 pub use digest_at_once::digest;
+pub use digest_at_once::digest_bits;
 pub use mode::Mode;
 pub use refusals::digest_refusal;
 pub use run::rounds;

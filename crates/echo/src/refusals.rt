@@ -4,13 +4,17 @@ ghost use mathlib.Core.Path.{_≡_};
 ghost use lib.Dec.{eqb};
 ghost use Rattle.echo.specs.Families.{sizesFit};
 ghost use Rattle.echo.specs.Routines.{compressRefusal, compressWideRefusal, roundsRefusal, roundsWideRefusal};
-ghost use Rattle.echo.specs.Session.{digestRefusal};
+ghost use Rattle.echo.specs.Session.{digestBitsRefusal, digestRefusal};
+use super::bits::zero_bits_from;
 use super::families::admitted;
 use super::families::block_size;
 use super::families::chaining_size;
 use super::mode::Mode;
 
-// The most bytes of a message, 2^61 - 21.
+// The most bits of a message, 2^64 - 161.
+pub(crate) const BIT_LIMIT: u64 = 0xffff_ffff_ffff_ff5f;
+
+// The most bytes within that, 2^61 - 21.
 pub(crate) const LIMIT: u64 = 2_305_843_009_213_693_931;
 
 // The highest starting counter, 2^64 - 161: the 160 words of ten rounds count on from it, and the last stays below 2^64.
@@ -115,6 +119,30 @@ pub fn digest_refusal(bits: u64, salt: usize, message: usize, room: usize) -> u8
     }
     if room < (bits / 8) as usize {
         return 5;
+    }
+    0
+}
+
+// What a digest at once of so many bits is refused for in either mode, 0 for nothing, by the lengths of salt and room and the message. They are too
+// many exactly where their whole bytes are.
+pub(crate) fn digest_bits_refusal(
+    bits: u64,
+    salt: usize,
+    message: &[u8],
+    count: u64,
+    room: usize,
+) -> u8
+    ensures { λ r. ⌜ r ≡ digestBitsRefusal bits salt (now (message .entry)) count room ⌝ }
+{
+    let refusal = digest_refusal(bits, salt, (count / 8) as usize, room);
+    if refusal != 0 {
+        return refusal;
+    }
+    if message.len() as u64 != (count + 7) / 8 {
+        return 6;
+    }
+    if !zero_bits_from(message, count) {
+        return 17;
     }
     0
 }

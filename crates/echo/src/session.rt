@@ -1,7 +1,11 @@
 // Sessions: a digest over the pieces of a message.
+ghost use mathlib.Core.Bool.{not, _&&_};
 ghost use mathlib.Core.Path.{_≡_};
+ghost use Prim.Native.Nat.{_%_};
+ghost use lib.Dec.{eqb};
 ghost use lib.ListN.{length};
-ghost use Rattle.echo.specs.Session.{addAnswer, blank, isSession, openAnswer, readAnswer, readLeaves};
+ghost use Rattle.echo.specs.Session.{addAnswer, addBitsAnswer, addBitsRefusal, blank, isSession, openAnswer, readAnswer, readLeaves};
+use super::bits::zero_bits_from;
 use super::families::admitted;
 use super::families::block_size;
 use super::families::chaining_size;
@@ -10,6 +14,7 @@ use super::last_blocks::finish;
 use super::lent::copy_in;
 use super::lent::sixteen;
 use super::mode::Mode;
+use super::refusals::BIT_LIMIT;
 use super::refusals::LIMIT;
 use super::waiting::absorb;
 use super::waiting::zeros_from;
@@ -22,9 +27,9 @@ pub struct Session {
     pub salt: [u8; 16],
     // the chaining variable, 32 to 128 bytes by mode and digest length, and zeros behind it
     pub chaining: [u8; 128],
-    // the message bytes so far
+    // the message bits so far
     pub taken: u64,
-    // those that don't fill a block yet, and zeros behind them
+    // those that don't fill a block yet, the most significant bit of a byte first, and zeros behind them
     pub waiting: [u8; 224],
 }
 
@@ -32,6 +37,16 @@ pub struct Session {
 pub struct Answer {
     pub refusal: u8,
     pub session: Session,
+}
+
+// Whether so many bits would stand behind a part byte.
+fn behind_part(taken: u64, count: u64) -> bool
+    ensures { λ r. ⌜ r ≡ (not (eqb (taken % 8) 0) && not (eqb count 0)) ⌝ }
+{
+    if taken % 8 == 0 {
+        return false;
+    }
+    count != 0
 }
 
 impl Session {
@@ -93,41 +108,60 @@ impl Session {
         if !admitted(bits) {
             return false;
         }
-        if LIMIT < taken {
+        if BIT_LIMIT < taken {
             return false;
         }
-        let at = (taken % (block_size(mode, bits) as u64)) as usize;
+        let within = taken % (8 * (block_size(mode, bits) as u64));
         let w = self.waiting;
-        if !zeros_from(&w, at) {
+        if !zero_bits_from(&w, within) {
             return false;
         }
         let v = self.chaining;
         zeros_from(&v, chaining_size(mode, bits))
     }
 
-    // The session with the piece joined to its message, or the same with 3 (no session) or 4 (too long).
-    pub fn add(self, piece: &[u8]) -> Answer
-        ensures { λ r. ⌜ r ≡ addAnswer self (now (piece .entry)) ⌝ }
+    // What adding so many bits of a piece is refused for, 0 for nothing.
+    fn add_bits_refusal(self, piece: &[u8], count: u64) -> u8
+        ensures { λ r. ⌜ r ≡ addBitsRefusal self (now (piece .entry)) count ⌝ }
     {
         if !self.is_session() {
-            return Answer {
-                refusal: 3,
-                session: self,
-            };
+            return 3;
         }
         let taken = self.taken;
-        if LIMIT - taken < piece.len() as u64 {
+        if BIT_LIMIT - taken < count {
+            return 4;
+        }
+        if piece.len() as u64 != (count + 7) / 8 {
+            return 6;
+        }
+        if behind_part(taken, count) {
+            return 16;
+        }
+        if !zero_bits_from(piece, count) {
+            return 17;
+        }
+        0
+    }
+
+    // The session with so many bits, the first of the piece's bytes, joined to its message; or the same with 3 (no session), 4 (too long), 6
+    // (bytes that are not the bit count over 8, rounded up), 16 (a piece behind a part byte) or 17 (a set bit below the last one used).
+    pub fn add_bits(self, piece: &[u8], count: u64) -> Answer
+        ensures { λ r. ⌜ r ≡ addBitsAnswer self (now (piece .entry)) count ⌝ }
+    {
+        let refusal = self.add_bits_refusal(piece, count);
+        if refusal != 0 {
             return Answer {
-                refusal: 4,
+                refusal: refusal,
                 session: self,
             };
         }
         let mode = self.mode;
         let bits = self.bits;
         let salt = self.salt;
+        let taken = self.taken;
         let mut v = self.chaining;
         let mut w = self.waiting;
-        absorb(&mut v, &mut w, piece, mode, bits, taken, salt);
+        absorb(&mut v, &mut w, piece, count, mode, bits, taken, salt);
         Answer {
             refusal: 0,
             session: Session {
@@ -135,10 +169,31 @@ impl Session {
                 bits: bits,
                 salt: salt,
                 chaining: v,
-                taken: taken + piece.len() as u64,
+                taken: taken + count,
                 waiting: w,
             },
         }
+    }
+
+    // The session with a piece of whole bytes joined to its message, or the same with 3 (no session), 4 (too long) or 16 (a piece behind a part
+    // byte).
+    pub fn add(self, piece: &[u8]) -> Answer
+        ensures { λ r. ⌜ r ≡ addAnswer self (now (piece .entry)) ⌝ }
+    {
+        let n = piece.len() as u64;
+        if LIMIT < n {
+            if self.is_session() {
+                return Answer {
+                    refusal: 4,
+                    session: self,
+                };
+            }
+            return Answer {
+                refusal: 3,
+                session: self,
+            };
+        }
+        self.add_bits(piece, 8 * n)
     }
 
     // The digest of the message so far, at the front of `out`, whose bytes behind it stay; or 3 (no session) or 5 (too little room) and

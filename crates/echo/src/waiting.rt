@@ -1,9 +1,9 @@
 // The waiting block of a session, over its lent parts.
 ghost use mathlib.Core.Path.{_≡_};
-ghost use Prim.Native.Nat.{_+_, _-_, _%_, _<_, _≤_, _^_};
+ghost use Prim.Native.Nat.{_+_, _-_, _/_, _%_, _≤_, _^_};
 ghost use lib.ListN.{drop, length, replicate, take};
 ghost use Rattle.echo.specs.Families.{blockSize};
-ghost use Rattle.echo.specs.Session.{addByte, addBytes, allZero, compressed, limit, made};
+ghost use Rattle.echo.specs.Session.{addBits, addByte, allZero, bitLimit, compressed, made};
 use super::compression::compress_in;
 use super::compression::round_count;
 use super::families::block_size;
@@ -72,26 +72,27 @@ fn put(
 ) -> usize
     requires { ⌜ length (now chaining) ≡ 128 ⌝ }
     requires { ⌜ length (now waiting) ≡ 224 ⌝ }
-    requires { ⌜ at ≡ taken % blockSize mode bits ⌝ }
-    requires { ⌜ taken < limit ⌝ }
-    ensures { λ r. ⌜ r ≡ (taken + 1) % blockSize mode bits ⌝ }
-    ensures { λ _. ⌜ made mode bits salt (now (chaining .exit)) (taken + 1) (now (waiting .exit)) ≡ addByte (made mode bits salt (now (chaining .entry)) taken (now (waiting .entry))) x ⌝ }
+    requires { ⌜ at ≡ taken / 8 % blockSize mode bits ⌝ }
+    requires { ⌜ taken + 8 ≤ bitLimit ⌝ }
+    ensures { λ r. ⌜ r ≡ (taken + 8) / 8 % blockSize mode bits ⌝ }
+    ensures { λ _. ⌜ made mode bits salt (now (chaining .exit)) (taken + 8) (now (waiting .exit)) ≡ addByte (made mode bits salt (now (chaining .entry)) taken (now (waiting .entry))) x ⌝ }
 {
     let b = block_size(mode, bits);
     waiting[at] = x;
     if at + 1 < b {
         return at + 1;
     }
-    compress_waiting(chaining, waiting, mode, bits, 8 * (taken + 1), salt);
+    compress_waiting(chaining, waiting, mode, bits, taken + 8, salt);
     clear(waiting);
     0
 }
 
-// A piece, byte by byte.
+// So many bits of a piece: its whole bytes one by one, and then the part byte.
 pub(crate) fn absorb(
     chaining: &mut [u8],
     waiting: &mut [u8],
     piece: &[u8],
+    count: u64,
     mode: Mode,
     bits: u64,
     taken: u64,
@@ -99,11 +100,13 @@ pub(crate) fn absorb(
 )
     requires { ⌜ length (now chaining) ≡ 128 ⌝ }
     requires { ⌜ length (now waiting) ≡ 224 ⌝ }
-    requires { ⌜ taken + length (now piece) ≤ limit ⌝ }
-    ensures { λ _. ⌜ made mode bits salt (now (chaining .exit)) (taken + length (now (piece .entry))) (now (waiting .exit)) ≡ addBytes (made mode bits salt (now (chaining .entry)) taken (now (waiting .entry))) (now (piece .entry)) ⌝ }
+    requires { ⌜ length (now piece) ≡ (count + 7) / 8 ⌝ }
+    requires { ⌜ taken + count ≤ bitLimit ⌝ }
+    ensures { λ _. ⌜ made mode bits salt (now (chaining .exit)) (taken + count) (now (waiting .exit)) ≡ addBits (made mode bits salt (now (chaining .entry)) taken (now (waiting .entry))) (now (piece .entry)) count ⌝ }
 {
-    let mut at = (taken % (block_size(mode, bits) as u64)) as usize;
-    for i in 0..piece.len() {
+    let whole = (count / 8) as usize;
+    let mut at = (taken / 8 % (block_size(mode, bits) as u64)) as usize;
+    for i in 0..whole {
         at = put(
             chaining,
             waiting,
@@ -111,8 +114,11 @@ pub(crate) fn absorb(
             piece[i],
             mode,
             bits,
-            taken + i as u64,
+            taken + 8 * (i as u64),
             salt,
         );
+    }
+    if count % 8 != 0 {
+        waiting[at] = piece[whole];
     }
 }

@@ -7,17 +7,21 @@ use Prim.Native.Nat.{ℕ, zero, suc, _+_, _*_, _/_, _-_, _^_, _<_, _≤_}
 use native.Mathlib.Omega.{arith}
 use borrow.Author.Tests.{eq-eqb, eqb-true, le-ltb, lt-ltb, ltb-false, ne-eqb, not-false, not-true}
 use lib.Dec.{eqb, ltb}
-use lib.ListN.{getD, length}
+use lib.ListN.{drop, getD, length}
 use Rattle.aes_round.specs.Bytes.{tab}
+use Rattle.aes_round.proofs.Laws.Bytes.{lt-or-le}
+use Rattle.echo.specs.Bits.{bitsOf}
 use Rattle.echo.specs.Compression.{compress}
 use Rattle.echo.specs.Refusals.{Refusal, _when_, counterTooHigh, firstOf, noSalt, unless}
 use Rattle.echo.specs.Families.{roundCount, sizesFit}
 use Rattle.echo.specs.Routines.{compressRefusal, compressWideLeaves, compressWideRefusal, roundsRefusal, roundsWideRefusal}
-use Rattle.echo.specs.Session.{admitted, digestRefusal, isSession, limit, readAnswer, readRefusal}
+use Rattle.echo.specs.Session.{admitted, allZero, bitLimit, digestBitsRefusal, digestRefusal, isSession, limit, otherSize, readAnswer, readRefusal}
+use Rattle.echo.specs.Session.{setBelow}
 use Rattle.echo.specs.Square.{wideKeysFrom}
 use Rattle.echo.specs.declared.mode.Mode.{Mode}
 use Rattle.echo.specs.declared.session.Answer.{Answer}
 use Rattle.echo.specs.declared.session.Session.{Session}
+use Rattle.echo.proofs.Laws.Bits.{Sized, whole-sized}
 use Rattle.echo.proofs.Laws.Families.{Sizes, sizes-fit}
 use Rattle.echo.proofs.Laws.Words.{sixteen-are}
 
@@ -148,7 +152,150 @@ module _ (bits salt message room : ℕ) (t : Bool) (e : t ≡ admitted bits) whe
         unfolding digestRefusal
         digest-0 r = simp (sym e ∙ not-false t n, eq-eqb salt 16 s, le-ltb limit message m, le-ltb room (bits / 8) r)
 
+-- what no refusal means: of each number in turn, and of the digest
+pub none-first : (n : ℕ) (b : Bool) (rest : List Refusal) → (n ≡ 0 → ⊥) → firstOf ((n when b) ∷ rest) ≡ 0 → (b ≡ false) × (firstOf rest ≡ 0)
+none-first n true rest h e = absurd (h e)
+none-first n false rest h e = (refl, e)
+
+pub record Digestible (bits salt message room : ℕ) : Type 0 where
+  pub admits : admitted bits ≡ true
+  pub salt-fits : salt ≡ 16
+  pub message-fits : message ≤ limit
+  pub room-fits : bits / 8 ≤ room
+
+pub digestible : (bits salt message room : ℕ) → digestRefusal bits salt message room ≡ 0 → Digestible bits salt message room
+unfolding digestRefusal
+digestible bits salt message room e =
+    let long = ltb limit message in
+    let small = ltb room (bits / 8) in
+    let a = none-first 1 (not (admitted bits)) ((2 when not (eqb salt 16)) ∷ (4 when long) ∷ (5 when small) ∷ []) (λ z. omega arith) e in
+    let b = none-first 2 (not (eqb salt 16)) ((4 when long) ∷ (5 when small) ∷ []) (λ z. omega arith) (a .1) in
+    let c = none-first 4 long ((5 when small) ∷ []) (λ z. omega arith) (b .1) in
+    let d = none-first 5 small [] (λ z. omega arith) (c .1) in
+    record {
+      admits = not-false (admitted bits) (a .0);
+      salt-fits = eqb-true salt 16 (not-false (eqb salt 16) (b .0));
+      message-fits = ltb-false limit message (c .0);
+      room-fits = ltb-false room (bits / 8) (d .0);
+    }
+
+-- in bits: 6 and 17 come behind the others, which go by the whole bytes
+
+-- where these give r
+abbrev measured : List ℕ → ℕ → ℕ → ℕ
+measured message count r = unless r (firstOf ((6 when otherSize (length message) count) ∷ (17 when setBelow message count) ∷ [])) r
+
+behind-four : (a b c d e f : Bool)
+    → firstOf ((1 when a) ∷ (2 when b) ∷ (4 when c) ∷ (5 when d) ∷ (6 when e) ∷ (17 when f) ∷ [])
+    ≡ unless (firstOf ((1 when a) ∷ (2 when b) ∷ (4 when c) ∷ (5 when d) ∷ [])) (firstOf ((6 when e) ∷ (17 when f) ∷ []))
+    (firstOf ((1 when a) ∷ (2 when b) ∷ (4 when c) ∷ (5 when d) ∷ []))
+behind-four true b c d e f = refl
+behind-four false true c d e f = refl
+behind-four false false true d e f = refl
+behind-four false false false true e f = refl
+behind-four false false false false e f = refl
+
+-- too many bits are those whose whole bytes are too many
+pub too-many : (count : ℕ) → ltb bitLimit count ≡ ltb limit (count / 8)
+too-many count =
+    ⊎-elim (λ (l : bitLimit < count). lt-ltb bitLimit count l ∙ sym (lt-ltb limit (count / 8) (omega arith)))
+    (λ (g : count ≤ bitLimit). le-ltb bitLimit count g ∙ sym (le-ltb limit (count / 8) (omega arith))) (lt-or-le bitLimit count)
+
+-- so many bits, by their whole bytes
+pub digest-whole-number : (bits salt count room : ℕ)
+    → digestRefusal bits salt (count / 8) room
+    ≡ firstOf ((1 when not (admitted bits)) ∷ (2 when noSalt salt) ∷ (4 when ltb bitLimit count) ∷ (5 when ltb room (bits / 8)) ∷ [])
+unfolding digestRefusal
+digest-whole-number bits salt count room =
+    ap (λ (c : Bool). firstOf ((1 when not (admitted bits)) ∷ (2 when noSalt salt) ∷ (4 when c) ∷ (5 when ltb room (bits / 8)) ∷ []))
+    (sym (too-many count))
+
+digest-measured : (bits salt : ℕ) (message : List ℕ) (count room : ℕ)
+    → digestBitsRefusal bits salt message count room ≡ measured message count (digestRefusal bits salt (count / 8) room)
+unfolding digestBitsRefusal
+digest-measured bits salt message count room =
+    behind-four (not (admitted bits)) (noSalt salt) (ltb bitLimit count) (ltb room (bits / 8)) (otherSize (length message) count) (setBelow message count)
+    ∙ ap (measured message count) (sym (digest-whole-number bits salt count room))
+
+-- what the code has: r, and then the message where that is 0
+module _ (bits salt : ℕ) (message : List ℕ) (count room r : ℕ) (e : r ≡ digestRefusal bits salt (count / 8) room) where
+  from-measured : (n : ℕ) → n ≡ measured message count r → n ≡ digestBitsRefusal bits salt message count room
+  from-measured n p = p ∙ ap (measured message count) e ∙ sym (digest-measured bits salt message count room)
+
+  pub digest-less : (r ≡ 0 → ⊥) → r ≡ digestBitsRefusal bits salt message count room
+  digest-less some = from-measured r (by r some)
+    where
+      by : (r : ℕ) → (r ≡ 0 → ⊥) → r ≡ measured message count r
+      by zero some = absurd (some refl)
+      by (suc n) some = refl
+
+  module _ (none : r ≡ 0) where
+    pub digest-counted : count + 7 < 2 ^ 64
+    digest-counted = omega (arith, digestible bits salt (count / 8) room (sym e ∙ none) .message-fits)
+
+    pub digest-6 : (length message ≡ (count + 7) / 8 → ⊥) → 6 ≡ digestBitsRefusal bits salt message count room
+    digest-6 l = from-measured 6 (rw none (simp (ne-eqb (length message) ((count + 7) / 8) l)))
+
+    module _ (l : length message ≡ (count + 7) / 8) (z : Bool) (g : z ≡ allZero (drop count (bitsOf message))) where
+      pub digest-17 : not z ≡ true → 17 ≡ digestBitsRefusal bits salt message count room
+      digest-17 c = from-measured 17 (rw none (simp (eq-eqb (length message) ((count + 7) / 8) l, sym g ∙ not-true z c)))
+
+      pub digest-bits-0 : not z ≡ false → 0 ≡ digestBitsRefusal bits salt message count room
+      digest-bits-0 c = from-measured 0 (rw none (simp (eq-eqb (length message) ((count + 7) / 8) l, sym g ∙ not-false z c)))
+
+-- nothing: what is known of the arguments then
+pub record BitsDigestible (bits salt : ℕ) (message : List ℕ) (count room : ℕ) : Type 0 where
+  pub digests : Digestible bits salt (count / 8) room
+  pub sized : Sized message count
+
+unmeasured : (message : List ℕ) (count r : ℕ) → measured message count r ≡ 0 → (r ≡ 0) × Sized message count
+unmeasured message count zero e =
+    let p = none-first 6 (otherSize (length message) count) ((17 when setBelow message count) ∷ []) (λ z. omega arith) e in
+    let q = none-first 17 (setBelow message count) [] (λ z. omega arith) (p .1) in (
+      refl,
+      record {
+        size = eqb-true (length message) ((count + 7) / 8) (not-false (eqb (length message) ((count + 7) / 8)) (p .0));
+        clear = not-false (allZero (drop count (bitsOf message))) (q .0);
+      },
+    )
+unmeasured message count (suc n) e = absurd (omega (arith, e))
+
+pub bits-digestible : (bits salt : ℕ) (message : List ℕ) (count room : ℕ) → digestBitsRefusal bits salt message count room ≡ 0
+    → BitsDigestible bits salt message count room
+bits-digestible bits salt message count room e =
+    let p = unmeasured message count _ (sym (digest-measured bits salt message count room) ∙ e) in
+    record { digests = digestible bits salt (count / 8) room (p .0); sized = p .1 }
+
+-- whole bytes: the number is the same
+pub whole-refusal : (bits salt : ℕ) (message : List ℕ) (room : ℕ)
+    → digestBitsRefusal bits salt message (8 * length message) room ≡ digestRefusal bits salt (length message) room
+whole-refusal bits salt message room =
+    let n : 8 * length message / 8 ≡ length message = omega arith in
+    digest-measured bits salt message (8 * length message) room
+    ∙ ap (λ (k : ℕ). measured message (8 * length message) (digestRefusal bits salt k room)) n
+    ∙ by (digestRefusal bits salt (length message) room)
+  where
+    S : Sized message (8 * length message)
+    S = whole-sized message
+
+    by : (r : ℕ) → measured message (8 * length message) r ≡ r
+    by zero = simp (eq-eqb (length message) ((8 * length message + 7) / 8) (S .size), S .clear)
+    by (suc r) = refl
+
 -- ---- the refusals in order, for whoever knows this crate by its promises alone
+
+pub digest-bits-number : (bits salt : ℕ) (message : List ℕ) (count room : ℕ)
+    → digestBitsRefusal bits salt message count room
+    ≡ firstOf
+    ((1 when not (admitted bits))
+    ∷ (2 when noSalt salt)
+    ∷ (4 when ltb bitLimit count)
+    ∷ (5 when ltb room (bits / 8))
+    ∷ (6 when otherSize (length message) count)
+    ∷ (17 when setBelow message count)
+    ∷ [])
+unfolding digestBitsRefusal
+digest-bits-number bits salt message count room = refl
 
 pub compress-number : (mode : Mode) (chaining block counter salt : ℕ)
     → compressRefusal mode chaining block counter salt
@@ -162,10 +309,6 @@ unfolding compressWideRefusal
 compress-wide-number mode chaining block salt = refl
 
 -- ---- what no refusal means
-
-none-first : (n : ℕ) (b : Bool) (rest : List Refusal) → (n ≡ 0 → ⊥) → firstOf ((n when b) ∷ rest) ≡ 0 → (b ≡ false) × (firstOf rest ≡ 0)
-none-first n true rest h e = absurd (h e)
-none-first n false rest h e = (refl, e)
 
 neither : (a b : Bool) → (a || b) ≡ false → (a ≡ false) × (b ≡ false)
 neither true b e = absurd (true≢false e)
@@ -300,25 +443,3 @@ module _ (f : ℕ → (ℕ → List ℕ) → List ℕ → List ℕ → List ℕ)
       d
       ∙ ap (λ (y : List ℕ). f count (wideKeysFrom counter) y square) (s ∙ sixteen-are salt (fit square count salt r e none .salt-fits))
       ∙ sym (done _ _ _ (sym e ∙ none))
-
-pub record Digestible (bits salt message room : ℕ) : Type 0 where
-  pub admits : admitted bits ≡ true
-  pub salt-fits : salt ≡ 16
-  pub message-fits : message ≤ limit
-  pub room-fits : bits / 8 ≤ room
-
-pub digestible : (bits salt message room : ℕ) → digestRefusal bits salt message room ≡ 0 → Digestible bits salt message room
-unfolding digestRefusal
-digestible bits salt message room e =
-    let long = ltb limit message in
-    let small = ltb room (bits / 8) in
-    let a = none-first 1 (not (admitted bits)) ((2 when not (eqb salt 16)) ∷ (4 when long) ∷ (5 when small) ∷ []) (λ z. omega arith) e in
-    let b = none-first 2 (not (eqb salt 16)) ((4 when long) ∷ (5 when small) ∷ []) (λ z. omega arith) (a .1) in
-    let c = none-first 4 long ((5 when small) ∷ []) (λ z. omega arith) (b .1) in
-    let d = none-first 5 small [] (λ z. omega arith) (c .1) in
-    record {
-      admits = not-false (admitted bits) (a .0);
-      salt-fits = eqb-true salt 16 (not-false (eqb salt 16) (b .0));
-      message-fits = ltb-false limit message (c .0);
-      room-fits = ltb-false room (bits / 8) (d .0);
-    }

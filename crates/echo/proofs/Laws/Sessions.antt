@@ -1,25 +1,30 @@
 -- Laws of the session's definitions, over plain records. Assumes nothing.
 use mathlib.Core.Path.{_≡_, refl, sym, ap, _∙_, subst}
-use mathlib.Core.Bool.{Bool, true, false, not, _&&_, true≢false}
-use mathlib.Core.List.{List, _++_}
-use Prim.Native.Nat.{ℕ, _+_, _-_, _/_, _%_, _<_, _≤_}
+use mathlib.Core.Bool.{Bool, true, false, not, _&&_}
+use mathlib.Core.List.{List, [], _∷_, _++_}
+use Prim.Native.Nat.{ℕ, zero, suc, _+_, _*_, _-_, _/_, _%_, _^_, _<_, _≤_}
 use native.Mathlib.Omega.{arith}
-use borrow.Author.Tests.{eq-eqb, le-leb, le-ltb, leb-true, lt-leb, lt-ltb, ne-eqb, not-false, not-true}
-use lib.Dec.{leb}
+use borrow.Author.Tests.{eq-eqb, eqb-true, le-leb, le-ltb, leb-true, lt-leb, lt-ltb, ltb-false, ne-eqb, not-false, not-true}
+use lib.Dec.{eqb, leb, ltb}
 use lib.ListN.{drop, getD, length, replicate, take, take-append-drop}
 use lib.Seq.{length-take-le, take-append-le}
 use Rattle.aes_round.specs.Bytes.{tab}
 use Rattle.echo.specs.declared.mode.Mode.{Mode}
 use Rattle.echo.specs.declared.session.Answer.{Answer}
 use Rattle.echo.specs.declared.session.Session.{Session}
+use Rattle.echo.specs.Bits.{bitsOf}
 use Rattle.echo.specs.Digest.{initial}
 use Rattle.echo.specs.Families.{blockSize, chainingSize}
 use Rattle.echo.specs.Placed.{Placed}
-use Rattle.echo.specs.Session.{addAnswer, addBytes, addRefusal, admitted, allZero, blank, finalChaining, isSession, limit, made, openAnswer}
-use Rattle.echo.specs.Session.{openRefusal, readAnswer, readLeaves, readRefusal, sessionDigest}
+use Rattle.echo.specs.Refusals.{_when_, unless}
+use Rattle.echo.specs.Session.{addAnswer, addBits, addBitsAnswer, addBitsRefusal, admitted, allZero, bitLimit, blank, finalChaining, isSession, limit}
+use Rattle.echo.specs.Session.{made, openAnswer, openRefusal, readAnswer, readLeaves, readRefusal, sessionDigest}
+use Rattle.echo.proofs.Laws.Bits.{Sized}
 use Rattle.echo.proofs.Laws.Families.{digest-in-chaining, sizes}
 use Rattle.echo.proofs.Laws.Placed.{placed-front}
+use Rattle.echo.proofs.Laws.Refusals.{none-first}
 use Rattle.echo.proofs.Laws.Words.{sixteen-are}
+use Rattle.echo.proofs.Laws.Zeros.{both}
 
 -- ---- which records are sessions: the answers of is_session, by the tests a, w and v that the code made
 
@@ -29,28 +34,24 @@ module _ (s : Session) (a : Bool) (e : a ≡ admitted (s .bits)) where
   is-not-admitted fails = rw (← e, not-true a fails)
 
   module _ (holds : not a ≡ false) where
-    pub is-too-long : limit < s .taken → false ≡ isSession s
+    pub is-too-long : bitLimit < s .taken → false ≡ isSession s
     unfolding isSession
-    is-too-long n = rw (← e, not-false a holds, lt-leb (s .taken) limit n)
+    is-too-long n = rw (← e, not-false a holds, lt-leb (s .taken) bitLimit n)
 
-    module _ (n : s .taken ≤ limit) (b : ℕ) (size : b ≡ blockSize (s .mode) (s .bits)) (w : Bool) (z : w ≡ allZero (drop (s .taken % b) (s .waiting))) where
-      rest-is : w ≡ allZero (drop (s .taken % blockSize (s .mode) (s .bits)) (s .waiting))
-      rest-is = z ∙ ap (λ (x : ℕ). allZero (drop (s .taken % x) (s .waiting))) size
+    module _ (n : s .taken ≤ bitLimit) (b : ℕ) (size : b ≡ blockSize (s .mode) (s .bits)) (w : Bool)
+        (z : w ≡ allZero (drop (s .taken % (8 * b)) (bitsOf (s .waiting)))) where
+      rest-is : w ≡ allZero (drop (s .taken % (8 * blockSize (s .mode) (s .bits))) (bitsOf (s .waiting)))
+      rest-is = z ∙ ap (λ (x : ℕ). allZero (drop (s .taken % (8 * x)) (bitsOf (s .waiting)))) size
 
       pub is-not-clear : not w ≡ true → false ≡ isSession s
       unfolding isSession
-      is-not-clear fails = rw (← e, not-false a holds, le-leb (s .taken) limit n, ← rest-is, not-true w fails)
+      is-not-clear fails = rw (← e, not-false a holds, le-leb (s .taken) bitLimit n, ← rest-is, not-true w fails)
 
       pub is-clear : not w ≡ false → (c : ℕ) (v : Bool) → v ≡ allZero (drop c (s .chaining)) → c ≡ chainingSize (s .mode) (s .bits) → v ≡ isSession s
       unfolding isSession
       is-clear clear c v q p =
-          rw (← e, not-false a holds, le-leb (s .taken) limit n, ← rest-is, not-false w clear)
+          rw (← e, not-false a holds, le-leb (s .taken) bitLimit n, ← rest-is, not-false w clear)
           (q ∙ ap (λ (x : ℕ). allZero (drop x (s .chaining))) p)
-
--- a test that came out true came through each of its parts
-pub both : (a b : Bool) → (a && b) ≡ true → (a ≡ true) × (b ≡ true)
-both true b e = (refl, e)
-both false b e = absurd (true≢false (sym e))
 
 most-bits : (h : ℕ) → admitted h ≡ true → h ≤ 512
 unfolding admitted
@@ -58,17 +59,17 @@ most-bits h e = leb-true h 512 (both (leb h 512) _ (both (leb 128 h) _ e .1) .0)
 
 pub record SessionFits (s : Session) : Type 0 where
   pub admits : admitted (s .bits) ≡ true
-  pub taken-fits : s .taken ≤ limit
-  pub waiting-zero : allZero (drop (s .taken % blockSize (s .mode) (s .bits)) (s .waiting)) ≡ true
+  pub taken-fits : s .taken ≤ bitLimit
+  pub waiting-zero : allZero (drop (s .taken % (8 * blockSize (s .mode) (s .bits))) (bitsOf (s .waiting))) ≡ true
   pub chaining-zero : allZero (drop (chainingSize (s .mode) (s .bits)) (s .chaining)) ≡ true
 
 pub session-fits : (s : Session) → isSession s ≡ true → SessionFits s
 unfolding isSession
 session-fits s e =
     let p = both (admitted (s .bits)) _ e in
-    let q = both (leb (s .taken) limit) _ (p .1) in
-    let r = both (allZero (drop (s .taken % blockSize (s .mode) (s .bits)) (s .waiting))) _ (q .1) in
-    record { admits = p .0; taken-fits = leb-true (s .taken) limit (q .0); waiting-zero = r .0; chaining-zero = r .1 }
+    let q = both (leb (s .taken) bitLimit) _ (p .1) in
+    let r = both (allZero (drop (s .taken % (8 * blockSize (s .mode) (s .bits))) (bitsOf (s .waiting)))) _ (q .1) in
+    record { admits = p .0; taken-fits = leb-true (s .taken) bitLimit (q .0); waiting-zero = r .0; chaining-zero = r .1 }
 
 -- what code that found a session by the test a knows of it
 module _ (s : Session) (a : Bool) (e : a ≡ isSession s) (holds : not a ≡ false) where
@@ -81,31 +82,142 @@ module _ (s : Session) (a : Bool) (e : a ≡ isSession s) (holds : not a ≡ fal
   pub bits-most : s .bits ≤ 512
   bits-most = most-bits (s .bits) (fits .admits)
 
-  pub taken-most : s .taken ≤ limit
+  pub taken-most : s .taken ≤ bitLimit
   taken-most = fits .taken-fits
 
-  pub rest-zero : allZero (drop (s .taken % blockSize (s .mode) (s .bits)) (s .waiting)) ≡ true
+  pub rest-zero : allZero (drop (s .taken % (8 * blockSize (s .mode) (s .bits))) (bitsOf (s .waiting))) ≡ true
   rest-zero = fits .waiting-zero
 
--- ---- what adding answers
+-- ---- what adding so many bits of a piece is refused for, by the tests a, t and z that the code made
 
-module _ (s : Session) (piece : List ℕ) (a : Bool) (e : a ≡ isSession s) where
-  pub added-none : not a ≡ true → _≡_ {A = Answer} (record { refusal = 3; session = s }) (addAnswer s piece)
-  unfolding addAnswer addRefusal
-  added-none fails = rw (← e, not-true a fails)
+module _ (s : Session) (piece : List ℕ) (count : ℕ) (a : Bool) (e : a ≡ isSession s) where
+  pub add-3 : not a ≡ true → 3 ≡ addBitsRefusal s piece count
+  unfolding addBitsRefusal
+  add-3 fails = simp (sym e ∙ not-true a fails)
 
   module _ (holds : not a ≡ false) where
-    pub added-much : limit - s .taken < length piece → _≡_ {A = Answer} (record { refusal = 4; session = s }) (addAnswer s piece)
-    unfolding addAnswer addRefusal
-    added-much n = rw (is-one s a e holds, lt-ltb limit (s .taken + length piece) (omega (arith, taken-most s a e holds)))
+    pub add-4 : bitLimit - s .taken < count → 4 ≡ addBitsRefusal s piece count
+    unfolding addBitsRefusal
+    add-4 n = simp (is-one s a e holds, lt-ltb bitLimit (s .taken + count) (omega (arith, taken-most s a e holds)))
 
-    pub adds : length piece ≤ limit - s .taken → s .taken + length piece ≤ limit
-    adds n = omega (arith, taken-most s a e holds)
+    module _ (n : count ≤ bitLimit - s .taken) where
+      room : s .taken + count ≤ bitLimit
+      room = omega (arith, taken-most s a e holds)
 
-    pub added : (r : Session) → r ≡ addBytes s piece → length piece ≤ limit - s .taken
-        → _≡_ {A = Answer} (record { refusal = 0; session = r }) (addAnswer s piece)
-    unfolding addAnswer addRefusal
-    added r d n = rw (is-one s a e holds, le-ltb limit (s .taken + length piece) (adds n), d)
+      pub size-fits : count + 7 < 2 ^ 64
+      size-fits = omega (arith, room)
+
+      pub add-6 : (length piece ≡ (count + 7) / 8 → ⊥) → 6 ≡ addBitsRefusal s piece count
+      unfolding addBitsRefusal
+      add-6 l = simp (is-one s a e holds, le-ltb bitLimit (s .taken + count) room, ne-eqb (length piece) ((count + 7) / 8) l)
+
+      module _ (l : length piece ≡ (count + 7) / 8) (t : Bool) (f : t ≡ (not (eqb (s .taken % 8) 0) && not (eqb count 0))) where
+        pub add-16 : t ≡ true → 16 ≡ addBitsRefusal s piece count
+        unfolding addBitsRefusal
+        add-16 b = simp (is-one s a e holds, le-ltb bitLimit (s .taken + count) room, eq-eqb (length piece) ((count + 7) / 8) l, sym f ∙ b)
+
+        module _ (b : t ≡ false) (z : Bool) (g : z ≡ allZero (drop count (bitsOf piece))) where
+          pub add-17 : not z ≡ true → 17 ≡ addBitsRefusal s piece count
+          unfolding addBitsRefusal
+          add-17 c =
+              simp (
+                is-one s a e holds,
+                le-ltb bitLimit (s .taken + count) room,
+                eq-eqb (length piece) ((count + 7) / 8) l,
+                sym f ∙ b,
+                sym g ∙ not-true z c,
+              )
+
+          pub add-0 : not z ≡ false → 0 ≡ addBitsRefusal s piece count
+          unfolding addBitsRefusal
+          add-0 c =
+              simp (
+                is-one s a e holds,
+                le-ltb bitLimit (s .taken + count) room,
+                eq-eqb (length piece) ((count + 7) / 8) l,
+                sym f ∙ b,
+                sym g ∙ not-false z c,
+              )
+
+-- nothing: what is known of session and piece then
+pub record Addable (s : Session) (piece : List ℕ) (count : ℕ) : Type 0 where
+  pub is : isSession s ≡ true
+  pub fits : s .taken + count ≤ bitLimit
+  pub sized : Sized piece count
+  pub ends : (not (eqb (s .taken % 8) 0) && not (eqb count 0)) ≡ false
+
+module _ (s : Session) (piece : List ℕ) (count : ℕ) where
+  pub addable : addBitsRefusal s piece count ≡ 0 → Addable s piece count
+  unfolding addBitsRefusal
+  addable e =
+      let behind = not (eqb (s .taken % 8) 0) && not (eqb count 0) in
+      let set = not (allZero (drop count (bitsOf piece))) in
+      let size = not (eqb (length piece) ((count + 7) / 8)) in
+      let long = ltb bitLimit (s .taken + count) in
+      let p =
+      none-first 3 (not (isSession s)) ((4 when long) ∷ (6 when size) ∷ (16 when behind) ∷ (17 when set) ∷ []) (λ z. omega arith) e in
+      let q = none-first 4 long ((6 when size) ∷ (16 when behind) ∷ (17 when set) ∷ []) (λ z. omega arith) (p .1) in
+      let r = none-first 6 size ((16 when behind) ∷ (17 when set) ∷ []) (λ z. omega arith) (q .1) in
+      let t = none-first 16 behind ((17 when set) ∷ []) (λ z. omega arith) (r .1) in
+      let u = none-first 17 set [] (λ z. omega arith) (t .1) in
+      record {
+        is = not-false (isSession s) (p .0);
+        fits = ltb-false bitLimit (s .taken + count) (q .0);
+        sized =
+            record {
+              size = eqb-true (length piece) ((count + 7) / 8) (not-false (eqb (length piece) ((count + 7) / 8)) (r .0));
+              clear = not-false (allZero (drop count (bitsOf piece))) (u .0);
+            };
+        ends = t .0;
+      }
+
+  pub nothing-refused : Addable s piece count → addBitsRefusal s piece count ≡ 0
+  nothing-refused A =
+      let most = session-fits s (A .is) .taken-fits in
+      let fits : count ≤ bitLimit - s .taken = omega (arith, A .fits) in
+      sym (add-0 s piece count true (sym (A .is)) refl fits (A .sized .size) false (sym (A .ends)) refl true (sym (A .sized .clear)) refl)
+
+-- what the code answers, by the refusal r that it has
+module _ (s : Session) (piece : List ℕ) (count r : ℕ) (e : r ≡ addBitsRefusal s piece count) where
+  pub not-added : (r ≡ 0 → ⊥) → _≡_ {A = Answer} (record { refusal = r; session = s }) (addBitsAnswer s piece count)
+  unfolding addBitsAnswer
+  not-added some = by r (addBitsRefusal s piece count) e some
+    where
+      by : (r n : ℕ) → r ≡ n → (r ≡ 0 → ⊥) → _≡_ {A = Answer} (record { refusal = r; session = s }) (record { refusal = n; session = unless n (addBits s piece count) s })
+      by r zero e h = absurd (h e)
+      by r (suc n) e h = ap (λ (k : ℕ). record { refusal = k; session = s }) e
+
+  module _ (none : r ≡ 0) where
+    able : Addable s piece count
+    able = addable s piece count (sym e ∙ none)
+
+    pub adds : s .taken + count ≤ bitLimit
+    adds = able .fits
+
+    pub sum-fits : s .taken + count < 2 ^ 64
+    sum-fits = omega (arith, adds)
+
+    pub bytes-are : length piece ≡ (count + 7) / 8
+    bytes-are = able .sized .size
+
+    pub added : (t : Session) → t ≡ addBits s piece count → _≡_ {A = Answer} (record { refusal = 0; session = t }) (addBitsAnswer s piece count)
+    unfolding addBitsAnswer
+    added t d = rw (← e, none, d)
+
+-- whole bytes that are too many
+module _ (s : Session) (piece : List ℕ) (long : limit < length piece) (a : Bool) (e : a ≡ isSession s) where
+  pub over-3 : a ≡ false → _≡_ {A = Answer} (record { refusal = 3; session = s }) (addAnswer s piece)
+  unfolding addAnswer
+  over-3 fails = not-added s piece (8 * length piece) 3 (add-3 s piece (8 * length piece) a e (ap not fails)) (λ z. omega arith)
+
+  pub over-4 : a ≡ true → _≡_ {A = Answer} (record { refusal = 4; session = s }) (addAnswer s piece)
+  unfolding addAnswer
+  over-4 holds = not-added s piece (8 * length piece) 4 (add-4 s piece (8 * length piece) a e (ap not holds) (omega arith)) (λ z. omega arith)
+
+-- and those that may not be
+pub as-bits : (s : Session) (piece : List ℕ) (r : Answer) → r ≡ addBitsAnswer s piece (8 * length piece) → r ≡ addAnswer s piece
+unfolding addAnswer
+as-bits s piece r e = e
 
 -- ---- opening
 

@@ -64,21 +64,21 @@ module _ (b : ℕ) (pos : 0 < b) where
       let g = block-ends (length xs) i h in
       rw (drop-append-le (b * i) xs ys (omega arith), take-append-le b (drop (b * i) xs) ys (simp length-drop (omega arith)))
 
-  -- and has the number of message bits by its end as its counter
-  pub counter-full-block : (n i : ℕ) → i < n / b → counterAt b n i ≡ 8 * (b * i + b)
+  -- and has the number of message bits by its end as its counter, where b is in bits
+  pub counter-full-block : (n i : ℕ) → i < n / b → counterAt b n i ≡ b * i + b
   unfolding counterAt
   counter-full-block n i h =
       let g = block-ends n i h in
       rw (lt-ltb (b * i) n (omega arith), min-eq-right g)
 
-  -- the full blocks, and those that are left
+  -- the full blocks, and those that are left, in bits too
   pub blocks-left : (n : ℕ) → n / b + (blockCount b n - n / b) ≡ blockCount b n
   unfolding blockCount
-  blocks-left n = omega (arith, div-on b pos n 18)
+  blocks-left n = omega (arith, div-on b pos n 144)
 
   pub one-left : (n : ℕ) → 0 < blockCount b n - n / b
   unfolding blockCount
-  one-left n = omega (arith, div-on b pos n 18)
+  one-left n = omega (arith, div-on b pos n 144)
 
   -- blocks behind the full ones
   pub block-rest : (xs ys : List ℕ) (i : ℕ) → block b (xs ++ ys) (length xs / b + i) ≡ block b (drop (b * (length xs / b)) xs ++ ys) i

@@ -1,7 +1,7 @@
--- `digest` meets its contract: a refusal, or an opening, one piece and a reading. Assumes nothing.
+-- `digest` meets its contract: a refusal, or eight bits for each byte. Assumes nothing.
 use borrow.Author.Needs.{needs}
 use Rattle.echo.specs.Session.{digestLeaves}
-use Rattle.echo.proofs.Laws.AtOnce.{at-once-answers, at-once-leaves}
+use Rattle.echo.proofs.Laws.AtOnce.{whole-answers, whole-counted, whole-left}
 use Rattle.echo.proofs.Laws.Refusals.{refused}
 use Rattle.echo.proofs.digest_at_once.digest.Statement.{statement}
 use Rattle.echo.proofs.digest_at_once.digest.Tie as tie
@@ -13,20 +13,17 @@ returns : tie.Need-returns
 unfolding digestLeaves
 returns c = (search, search refused)
 
-open-requires : tie.Need-open-requires
-open-requires c κs = search needs
+mul-digest-bits : tie.Need-mul-digest-bits
+mul-digest-bits c = search whole-counted
 
-add-requires : tie.Need-add-requires
-add-requires c κs = search needs
-
-read-requires : tie.Need-read-requires
-read-requires c κs = search needs
+digest-bits-requires : tie.Need-digest-bits-requires
+digest-bits-requires c κs = search needs
 
 same-length : tie.Need-same-length
 same-length c = search needs
 
 returns-2 : tie.Need-returns-2
-returns-2 c = (search at-once-answers, search at-once-leaves)
+returns-2 c = (search whole-answers, search whole-left)
 
 pub digest-spec : {M : Type 1} → statement M
 digest-spec =
@@ -34,8 +31,7 @@ digest-spec =
     (tie.spec
     digest-refusal-requires
     returns
-    open-requires
-    add-requires
-    read-requires
+    mul-digest-bits
+    digest-bits-requires
     same-length
     returns-2)

@@ -1,9 +1,9 @@
--- `finish` meets its contract: one block or two are left, by whether the padding fits behind the waiting bytes. Assumes nothing.
+-- `finish` meets its contract: one block or two are left, by whether the padding fits behind the waiting bits. Assumes nothing.
 use native.Mathlib.Omega.{arith}
 use borrow.Author.Needs.{needs, set-long}
 use lib.ListN.{length-set}
-use Rattle.echo.proofs.Laws.Ends.{counter-fits, one-left, two-left}
-use Rattle.echo.proofs.Laws.Waiting.{padding-fits, place-in, some-block}
+use Rattle.echo.proofs.Laws.Ends.{counter-fits, one-left, part-clear, two-left}
+use Rattle.echo.proofs.Laws.Waiting.{block-bits-fit, padding-fits, place-in, some-block, some-block-bits}
 use Rattle.echo.proofs.last_blocks.finish.Statement.{statement}
 use Rattle.echo.proofs.last_blocks.finish.Tie as tie
 
@@ -20,8 +20,20 @@ block-size-requires c κs = search needs
 rem-at : tie.Need-rem-at
 rem-at c = search some-block
 
+mul-last-counter : tie.Need-mul-last-counter
+mul-last-counter c = search block-bits-fit
+
+rem-last-counter : tie.Need-rem-last-counter
+rem-last-counter c = search some-block-bits
+
 last-counter-requires : tie.Need-last-counter-requires
 last-counter-requires c κs = search needs
+
+slice-read-marked : tie.Need-slice-read-marked
+slice-read-marked c = search place-in
+
+marked-requires : tie.Need-marked-requires
+marked-requires c κs = (search needs, search part-clear)
 
 slice-write-waiting : tie.Need-slice-write-waiting
 slice-write-waiting c = search place-in
@@ -30,7 +42,7 @@ add-if1 : tie.Need-add-if1
 add-if1 c = search padding-fits
 
 close-requires : tie.Need-close-requires
-close-requires c κs = (search, (search set-long, (search counter-fits, (search, search))))
+close-requires c κs = (search, (search set-long, (search counter-fits, search)))
 
 same-length : tie.Need-same-length
 same-length c = search needs
@@ -51,7 +63,7 @@ clear-requires c κs = search needs
 close-requires-2 : tie.Need-close-requires-2
 close-requires-2 c κs = (
   search needs,
-  (omega (arith, simp length-set at (c .before .before .before .before .clear .kept .0)), (search (needs, counter-fits), (search, search))),
+  (omega (arith, simp length-set at (c .before .before .before .before .clear .kept .0)), (search (needs, counter-fits), search)),
 )
 
 same-length-3 : tie.Need-same-length-3
@@ -69,7 +81,11 @@ finish-spec =
     (tie.spec
     block-size-requires
     rem-at
+    mul-last-counter
+    rem-last-counter
     last-counter-requires
+    slice-read-marked
+    marked-requires
     slice-write-waiting
     add-if1
     close-requires

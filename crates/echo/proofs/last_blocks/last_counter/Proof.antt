@@ -1,11 +1,7 @@
 -- `last_counter` meets its contract. Assumes nothing.
-use borrow.Author.Needs.{needs}
 use borrow.Author.Tests.{eq-eqb, ne-eqb}
 use Rattle.echo.proofs.last_blocks.last_counter.Statement.{statement}
 use Rattle.echo.proofs.last_blocks.last_counter.Tie as tie
-
-mul-result : tie.Need-mul-result
-mul-result c = search needs
 
 returns : tie.Need-returns
 returns c = simp (eq-eqb _ _ (c .if1 .taken))
@@ -14,4 +10,4 @@ returns-2 : tie.Need-returns-2
 returns-2 c = simp (ne-eqb _ _ (c .if1 .left))
 
 pub last-counter-spec : {M : Type 1} → statement M
-last-counter-spec = tie.close (tie.spec mul-result returns returns-2)
+last-counter-spec = tie.close (tie.spec returns returns-2)

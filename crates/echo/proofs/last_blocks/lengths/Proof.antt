@@ -1,60 +1,54 @@
 -- `lengths` meets its contract: antt computes the places. Assumes nothing.
-use Prim.Native.Nat.{_*_}
-use native.Mathlib.Omega.{arith}
 use borrow.Author.Needs.{needs}
 use Rattle.echo.proofs.Laws.Numbers.{lengths-are}
 use Rattle.echo.proofs.last_blocks.lengths.Statement.{statement}
 use Rattle.echo.proofs.last_blocks.lengths.Tie as tie
 
-mul-count : tie.Need-mul-count
-mul-count c = search needs
+cast-t4 : tie.Need-cast-t4
+cast-t4 c = search needs
 
-cast-t5 : tie.Need-cast-t5
-cast-t5 c = search needs
+cast-t7 : tie.Need-cast-t7
+cast-t7 c = search needs
 
-cast-t8 : tie.Need-cast-t8
-cast-t8 c = search needs
+cast-t9 : tie.Need-cast-t9
+cast-t9 c = search needs
 
-cast-t10 : tie.Need-cast-t10
-cast-t10 c = search needs
+cast-t12 : tie.Need-cast-t12
+cast-t12 c = search needs
 
-cast-t13 : tie.Need-cast-t13
-cast-t13 c = search needs
+cast-t15 : tie.Need-cast-t15
+cast-t15 c = search needs
 
-cast-t16 : tie.Need-cast-t16
-cast-t16 c = search needs
+cast-t18 : tie.Need-cast-t18
+cast-t18 c = search needs
 
-cast-t19 : tie.Need-cast-t19
-cast-t19 c = search needs
+cast-t21 : tie.Need-cast-t21
+cast-t21 c = search needs
 
-cast-t22 : tie.Need-cast-t22
-cast-t22 c = search needs
+cast-t24 : tie.Need-cast-t24
+cast-t24 c = search needs
 
-cast-t25 : tie.Need-cast-t25
-cast-t25 c = search needs
+cast-t27 : tie.Need-cast-t27
+cast-t27 c = search needs
 
-cast-t28 : tie.Need-cast-t28
-cast-t28 c = search needs
-
-cast-t31 : tie.Need-cast-t31
-cast-t31 c = search needs
+cast-t30 : tie.Need-cast-t30
+cast-t30 c = search needs
 
 returns : tie.Need-returns
-returns c = lengths-are (c .args .bits) (8 * c .args .taken) (omega (arith, c .pre .1))
+returns c = lengths-are (c .args .bits) (c .args .taken) (search needs)
 
 pub lengths-spec : {M : Type 1} → statement M
 lengths-spec =
     tie.close
     (tie.spec
-    mul-count
-    cast-t5
-    cast-t8
-    cast-t10
-    cast-t13
-    cast-t16
-    cast-t19
-    cast-t22
-    cast-t25
-    cast-t28
-    cast-t31
+    cast-t4
+    cast-t7
+    cast-t9
+    cast-t12
+    cast-t15
+    cast-t18
+    cast-t21
+    cast-t24
+    cast-t27
+    cast-t30
     returns)

@@ -26,9 +26,6 @@ returns c = (search next-place, search put-more)
 add-compress-waiting : tie.Need-add-compress-waiting
 add-compress-waiting c = search needs
 
-mul-compress-waiting : tie.Need-mul-compress-waiting
-mul-compress-waiting c = search needs
-
 compress-waiting-requires : tie.Need-compress-waiting-requires
 compress-waiting-requires c κs = (search, (search set-long, search needs))
 
@@ -55,7 +52,6 @@ put-spec =
     same-length
     returns
     add-compress-waiting
-    mul-compress-waiting
     compress-waiting-requires
     clear-requires
     same-length-2

@@ -1,6 +1,6 @@
--- `add` meets its contract, a case for each return. Assumes nothing.
-use borrow.Author.Needs.{length-unmapped, needs}
-use Rattle.echo.proofs.Laws.Sessions.{added, added-much, added-none, adds, taken-most}
+-- `add` meets its contract: eight bits for each byte, where so many can be counted. Assumes nothing.
+use borrow.Author.Needs.{needs}
+use Rattle.echo.proofs.Laws.Sessions.{as-bits, over-3, over-4}
 use Rattle.echo.proofs.session.Session.add.Statement.{statement}
 use Rattle.echo.proofs.session.Session.add.Tie as tie
 
@@ -8,39 +8,21 @@ is-session-requires : tie.Need-is-session-requires
 is-session-requires c κs = search needs
 
 returns : tie.Need-returns
-returns c = search added-none
-
-sub-if2 : tie.Need-sub-if2
-sub-if2 c = search taken-most
+returns c = search over-4
 
 returns-2 : tie.Need-returns-2
-returns-2 c = search added-much
+returns-2 c = search over-3
 
-slice-aggregate-absorb : tie.Need-slice-aggregate-absorb
-slice-aggregate-absorb c = search needs
+mul-add-bits : tie.Need-mul-add-bits
+mul-add-bits c = search needs
 
-slice-aggregate-absorb-2 : tie.Need-slice-aggregate-absorb-2
-slice-aggregate-absorb-2 c = search needs
-
-absorb-requires : tie.Need-absorb-requires
-absorb-requires c κs = (search length-unmapped, (search length-unmapped, search adds))
-
-add-t13 : tie.Need-add-t13
-add-t13 c = search needs
+add-bits-requires : tie.Need-add-bits-requires
+add-bits-requires c κs = search needs
 
 returns-3 : tie.Need-returns-3
-returns-3 c = search added
+returns-3 c = search as-bits
 
 pub add-spec : {M : Type 1} → statement M
 add-spec =
     tie.close
-    (tie.spec
-    is-session-requires
-    returns
-    sub-if2
-    returns-2
-    slice-aggregate-absorb
-    slice-aggregate-absorb-2
-    absorb-requires
-    add-t13
-    returns-3)
+    (tie.spec is-session-requires returns returns-2 mul-add-bits add-bits-requires returns-3)

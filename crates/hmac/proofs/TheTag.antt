@@ -6,14 +6,14 @@ use mathlib.Core.Path.{_≡_, refl, sym, ap, _∙_}
 use mathlib.Core.Bool.{Bool, true, false}
 use mathlib.Core.Logic.{_↔_}
 use mathlib.Core.List.{List, [], _∷_, _++_, append-assoc, append-nil}
-use Prim.Native.Nat.{ℕ, zero, suc, _+_, _/_, _≤_}
+use Prim.Native.Nat.{ℕ, zero, suc, _+_, _*_, _/_, _%_, _≤_}
 use native.Mathlib.Omega.{arith}
 use borrow.Author.Tests.{eq-eqb, le-ltb, ltb-false}
 use lib.Dec.{ltb}
 use lib.ListN.{drop, length, length-append}
 use Rattle.echo.specs.declared.mode.Mode.the-variants.{DoublePipe}
 use Rattle.echo.specs.Pieces.{joined}
-use Rattle.echo.specs.Session.{addBytes, admitted, isSession, limit, sessionDigest}
+use Rattle.echo.specs.Session.{addBytes, admitted, bitLimit, isSession, limit, sessionDigest}
 use Rattle.echo.proofs.Laws.Families.{double-block}
 use Rattle.echo.proofs.Laws.Kept.{add-counts, add-is-session, add-keeps}
 use Rattle.echo.proofs.Laws.Pieces.{digest-long, joined-lengths, joined-more, joined-none}
@@ -155,8 +155,9 @@ pub tag-sessions-exactly : (t : TagSession)
     × (t .outer .mode ≡ DoublePipe)
     × (t .inner .bits ≡ t .outer .bits)
     × (t .inner .salt ≡ t .outer .salt)
-    × (t .outer .taken ≡ blockSize (t .outer .bits))
-    × (blockSize (t .outer .bits) ≤ t .inner .taken))
+    × (t .outer .taken ≡ 8 * blockSize (t .outer .bits))
+    × (8 * blockSize (t .outer .bits) ≤ t .inner .taken)
+    × (t .inner .taken % 8 ≡ 0))
 tag-sessions-exactly t = (there, back)
   where
     there : isTagSession t ≡ true
@@ -166,9 +167,12 @@ tag-sessions-exactly t = (there, back)
         × (t .outer .mode ≡ DoublePipe)
         × (t .inner .bits ≡ t .outer .bits)
         × (t .inner .salt ≡ t .outer .salt)
-        × (t .outer .taken ≡ blockSize (t .outer .bits))
-        × (blockSize (t .outer .bits) ≤ t .inner .taken)
-    there e = let F = tag-fits t e in (F .inner-is, F .outer-is, F .inner-mode, F .outer-mode, F .one-length, F .one-salt, F .outer-block, F .inner-more)
+        × (t .outer .taken ≡ 8 * blockSize (t .outer .bits))
+        × (8 * blockSize (t .outer .bits) ≤ t .inner .taken)
+        × (t .inner .taken % 8 ≡ 0)
+    there e =
+        let F = tag-fits t e in
+        (F .inner-is, F .outer-is, F .inner-mode, F .outer-mode, F .one-length, F .one-salt, F .outer-block, F .inner-more, F .inner-whole)
 
     back : (isSession (t .inner) ≡ true)
         × (isSession (t .outer) ≡ true)
@@ -176,8 +180,9 @@ tag-sessions-exactly t = (there, back)
         × (t .outer .mode ≡ DoublePipe)
         × (t .inner .bits ≡ t .outer .bits)
         × (t .inner .salt ≡ t .outer .salt)
-        × (t .outer .taken ≡ blockSize (t .outer .bits))
-        × (blockSize (t .outer .bits) ≤ t .inner .taken)
+        × (t .outer .taken ≡ 8 * blockSize (t .outer .bits))
+        × (8 * blockSize (t .outer .bits) ≤ t .inner .taken)
+        × (t .inner .taken % 8 ≡ 0)
         → isTagSession t ≡ true
     back p =
         fits-tag t
@@ -190,9 +195,10 @@ tag-sessions-exactly t = (there, back)
           one-salt = p .5;
           outer-block = p .6;
           inner-more = p .7;
+          inner-whole = p .8;
         })
 
-module _ (t : TagSession) (is : isTagSession t ≡ true) (piece : List ℕ) (fits : t .inner .taken + length piece ≤ limit) where
+module _ (t : TagSession) (is : isTagSession t ≡ true) (piece : List ℕ) (fits : t .inner .taken + 8 * length piece ≤ bitLimit) where
   F : TagFits t
   F = tag-fits t is
 
@@ -202,7 +208,7 @@ module _ (t : TagSession) (is : isTagSession t ≡ true) (piece : List ℕ) (fit
   stays-a-tag-session =
       let K = add-keeps (t .inner) piece in
       fits-tag (addTagBytes t piece) (record {
-        inner-is = add-is-session (t .inner) piece (F .inner-is) fits;
+        inner-is = add-is-session (t .inner) piece (F .inner-is) (F .inner-whole) fits;
         outer-is = F .outer-is;
         inner-mode = K .2 ∙ F .inner-mode;
         outer-mode = F .outer-mode;
@@ -210,11 +216,12 @@ module _ (t : TagSession) (is : isTagSession t ≡ true) (piece : List ℕ) (fit
         one-salt = K .1 ∙ F .one-salt;
         outer-block = F .outer-block;
         inner-more = omega (arith, F .inner-more, add-counts (t .inner) piece);
+        inner-whole = omega (arith, F .inner-whole, add-counts (t .inner) piece);
       })
 
   is-added : addTagAnswer t piece ≡ record { refusal = 0; session = addTagBytes t piece }
   unfolding addTagAnswer addTagRefusal
-  is-added = rw (is, le-ltb limit (t .inner .taken + length piece) fits)
+  is-added = rw (is, le-ltb bitLimit (t .inner .taken + 8 * length piece) fits)
 
   pub every-tag-session-is-answered-by-its-two-sessions : (room : List ℕ) → t .outer .bits / 8 ≤ length room
       → (addTagAnswer t piece .refusal ≡ 0)

@@ -3,11 +3,11 @@ use mathlib.Core.Path.{_≡_}
 use mathlib.Core.Bool.{false, true}
 use mathlib.Core.Logic.{_↔_}
 use mathlib.Core.List.{List, [], _∷_, _++_}
-use Prim.Native.Nat.{ℕ, suc, _+_, _/_, _≤_}
+use Prim.Native.Nat.{ℕ, suc, _+_, _*_, _/_, _%_, _≤_}
 use lib.ListN.{drop, length}
 use Rattle.echo.specs.declared.mode.Mode.the-variants.{DoublePipe}
 use Rattle.echo.specs.Pieces.{joined}
-use Rattle.echo.specs.Session.{addBytes, admitted, isSession, limit, sessionDigest}
+use Rattle.echo.specs.Session.{addBytes, admitted, bitLimit, isSession, limit, sessionDigest}
 use Rattle.hmac.specs.declared.tag_session.TagSession.{TagSession}
 use Rattle.hmac.specs.DoublePipe.{blockSize, digestOf}
 use Rattle.hmac.specs.Hmac.{keyBlock, tagOf}
@@ -150,14 +150,15 @@ pub tag-sessions-exactly : (t : TagSession)
     × (t .outer .mode ≡ DoublePipe)
     × (t .inner .bits ≡ t .outer .bits)
     × (t .inner .salt ≡ t .outer .salt)
-    × (t .outer .taken ≡ blockSize (t .outer .bits))
-    × (blockSize (t .outer .bits) ≤ t .inner .taken))
+    × (t .outer .taken ≡ 8 * blockSize (t .outer .bits))
+    × (8 * blockSize (t .outer .bits) ≤ t .inner .taken)
+    × (t .inner .taken % 8 ≡ 0))
 tag-sessions-exactly = tag.tag-sessions-exactly
 
 -- any record that is a tag session, whether an opening made it or not
 pub every-tag-session-is-answered-by-its-two-sessions : (t : TagSession) (piece room : List ℕ)
     → isTagSession t ≡ true
-    → t .inner .taken + length piece ≤ limit
+    → t .inner .taken + 8 * length piece ≤ bitLimit
     → t .outer .bits / 8 ≤ length room
     → (addTagAnswer t piece .refusal ≡ 0)
     × (isTagSession (addTagAnswer t piece .session) ≡ true)

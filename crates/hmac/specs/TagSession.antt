@@ -1,13 +1,13 @@
 -- Tag sessions: which records are one, and what opening, adding, reading and checking answer. Assumes nothing.
 use mathlib.Core.Bool.{Bool, false, not, _&&_}
 use mathlib.Core.List.{List, [], _∷_, _++_}
-use Prim.Native.Nat.{ℕ, _+_, _/_}
+use Prim.Native.Nat.{ℕ, _+_, _*_, _/_, _%_}
 use lib.Dec.{eqb, leb, ltb}
 use lib.ListN.{drop, length}
 use Rattle.aes_round.specs.Bytes.{xorBytes}
 use Rattle.echo.specs.declared.session.Session.{Session}
 use Rattle.echo.specs.Refusals.{_when_, firstOf, noSalt, unless}
-use Rattle.echo.specs.Session.{addBytes, admitted, blank, isSession, limit, sessionDigest}
+use Rattle.echo.specs.Session.{addBytes, admitted, bitLimit, blank, isSession, limit, sessionDigest}
 use Rattle.hmac.specs.declared.tag_session.Checking.{Checking}
 use Rattle.hmac.specs.declared.tag_session.TagAnswer.{TagAnswer}
 use Rattle.hmac.specs.declared.tag_session.TagSession.{TagSession}
@@ -15,7 +15,11 @@ use Rattle.hmac.specs.DoublePipe.{blockSize, digestOf, isDoublePipe, ope
 use Rattle.hmac.specs.Hmac.{ipad, keyBlock, opad}
 use Rattle.hmac.specs.Same.{same}
 
--- two digest sessions in double-pipe of one h and salt, the outer with n of one block, the inner with at least that
+-- the outer session has the bits of one block, and the inner one at least those, in whole bytes
+abbrev pub countsFit : ℕ → ℕ → ℕ → Bool
+countsFit inner outer h = eqb outer (8 * blockSize h) && (leb (8 * blockSize h) inner && eqb (inner % 8) 0)
+
+-- two digest sessions in double-pipe of one h and salt
 unfoldable pub isTagSession : TagSession → Bool
 isTagSession t =
     isSession (t .inner)
@@ -24,8 +28,7 @@ isTagSession t =
     && (isDoublePipe (t .outer .mode)
     && (eqb (t .inner .bits) (t .outer .bits)
     && (same (t .inner .salt) (t .outer .salt)
-    && (eqb (t .outer .taken) (blockSize (t .outer .bits))
-    && leb (blockSize (t .outer .bits)) (t .inner .taken)))))))
+    && countsFit (t .inner .taken) (t .outer .taken) (t .outer .bits))))))
 
 -- ---- opening
 
@@ -61,7 +64,7 @@ addTagBytes t piece = record { inner = addBytes (t .inner) piece; outer = t .out
 
 -- key block and message together
 unfoldable pub addTagRefusal : TagSession → ℕ → ℕ
-addTagRefusal t pieceLength = firstOf ((3 when not (isTagSession t)) ∷ (4 when ltb limit (t .inner .taken + pieceLength)) ∷ [])
+addTagRefusal t pieceLength = firstOf ((3 when not (isTagSession t)) ∷ (4 when ltb bitLimit (t .inner .taken + 8 * pieceLength)) ∷ [])
 
 unfoldable pub addTagAnswer : TagSession → List ℕ → TagAnswer
 addTagAnswer t piece =

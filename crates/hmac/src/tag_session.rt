@@ -2,7 +2,7 @@
 ghost use mathlib.Core.Bool.{true};
 ghost use mathlib.Core.Path.{_≡_};
 ghost use lib.ListN.{length};
-ghost use Rattle.hmac.specs.TagSession.{addTagAnswer, checkTagAnswer, closedBy, isTagSession, openTagAnswer, readTagAnswer, readTagLeaves, refusedTag};
+ghost use Rattle.hmac.specs.TagSession.{addTagAnswer, checkTagAnswer, closedBy, countsFit, isTagSession, openTagAnswer, readTagAnswer, readTagLeaves, refusedTag};
 use super::double_pipe::is_double_pipe;
 use super::key_block::block_size;
 use super::key_block::key_block;
@@ -30,6 +30,20 @@ pub struct Checking {
     pub refusal: u8,
     pub yes: bool,
     pub session: TagSession,
+}
+
+// Whether an outer session has the bits of one block, and an inner one at least those, in whole bytes.
+fn counts_fit(inner: u64, outer: u64, bits: u64) -> bool
+    ensures { λ r. ⌜ r ≡ countsFit inner outer bits ⌝ }
+{
+    let b = 8 * (block_size(bits) as u64);
+    if outer != b {
+        return false;
+    }
+    if inner < b {
+        return false;
+    }
+    inner % 8 == 0
 }
 
 impl TagSession {
@@ -104,11 +118,7 @@ impl TagSession {
         if !same(&salt, &outer_salt) {
             return false;
         }
-        let b = block_size(self.outer.bits) as u64;
-        if self.outer.taken != b {
-            return false;
-        }
-        b <= self.inner.taken
+        counts_fit(self.inner.taken, self.outer.taken, self.outer.bits)
     }
 
     // The session with the piece joined to its message, or the same with 3 (no tag session) or 4 (too long).

@@ -2,7 +2,7 @@
 use mathlib.Core.Path.{_≡_, refl, sym, ap, ap₂, _∙_}
 use mathlib.Core.Bool.{Bool, true, false, not}
 use mathlib.Core.List.{List, [], _∷_, _++_}
-use Prim.Native.Nat.{ℕ, _+_, _/_, _≤_}
+use Prim.Native.Nat.{ℕ, _+_, _*_, _/_, _≤_}
 use native.Mathlib.Nat.{add-zero}
 use native.Mathlib.Omega.{arith}
 use borrow.Author.Tests.{eq-eqb, eqb-true, le-ltb, ltb-false}
@@ -12,7 +12,7 @@ use Rattle.echo.specs.Refusals.{Refusal, _when_, firstOf, noSalt, unless}
 use Rattle.echo.specs.Session.{admitted, limit}
 use Rattle.echo.proofs.Laws.Families.{double-block}
 use Rattle.echo.proofs.Laws.Opened.{add-nothing}
-use Rattle.echo.proofs.Laws.Refusals.{refused}
+use Rattle.echo.proofs.Laws.Refusals.{refused, too-many}
 use Rattle.hmac.specs.declared.at_once.Verdict.{Verdict}
 use Rattle.hmac.specs.declared.tag_session.Checking.{Checking}
 use Rattle.hmac.specs.declared.tag_session.TagAnswer.{TagAnswer}
@@ -75,7 +75,17 @@ module _ (h : ℕ) (salt key message : List ℕ) where
         unfolding addTagAnswer addTagRefusal
         added-number long p =
             let S = double-block h in
-            rw (d, opened-is, holds-session h salt key (passed .0) [] (omega arith), holds-count h salt key [], add-zero (blockSize h), p)
+            let sum : (8 * blockSize h + 8 * length message) / 8 ≡ blockSize h + length message = omega arith in
+            rw (
+              d,
+              opened-is,
+              holds-session h salt key (passed .0) [] (omega arith),
+              holds-count h salt key [],
+              add-zero (blockSize h),
+              too-many (8 * blockSize h + 8 * length message),
+              sum,
+              p,
+            )
 
         -- the message is refused, and so is the call
         not-added : (y .refusal ≡ 0 → ⊥) → (rest : List Refusal) → y .refusal ≡ first rest

@@ -2,7 +2,7 @@
 use mathlib.Core.Path.{_≡_, refl, sym, ap, _∙_}
 use mathlib.Core.Bool.{Bool, true, false}
 use mathlib.Core.List.{List, _++_, append-assoc}
-use Prim.Native.Nat.{ℕ, _+_, _-_, _<_, _≤_}
+use Prim.Native.Nat.{ℕ, _+_, _-_, _%_, _<_, _≤_}
 use native.Mathlib.Nat.{not-suc-le-zero, zero-add}
 use native.Mathlib.Omega.{arith}
 use borrow.Author.Tests.{le-ltb, lt-ltb, ltb-false, ltb-true}
@@ -21,10 +21,10 @@ use Rattle.echo.specs.Families.{either}
 use Rattle.echo.specs.Placed.{Placed}
 use Rattle.echo.specs.Session.{addAnswer, addBytes, admitted, digestLeaves, digestRefusal, isSession, limit}
 use Rattle.echo.proofs.Laws.Families.{double-block}
-use Rattle.echo.proofs.Laws.Pieces.{digest-long}
+use Rattle.echo.proofs.Laws.Pieces.{digest-long, takes-bytes}
 use Rattle.echo.proofs.Laws.Placed.{placed-front}
 use Rattle.echo.proofs.Laws.Refusals.{digest-4, digestible}
-use Rattle.echo.proofs.Laws.Sessions.{added, admitted-most}
+use Rattle.echo.proofs.Laws.Sessions.{admitted-most}
 use Rattle.echo.proofs.Theorems.{at-once-is-the-digest}
 use Rattle.hmac.specs.DoublePipe.{blockSize, digestOf}
 use Rattle.hmac.specs.Hmac.{keyBlock, withZeros}
@@ -157,6 +157,6 @@ module _ (h b i pad : ℕ) (block room padded : List ℕ) (F : Filled 192 (λ k.
         → adding .session ≡ addBytes fresh (xorBytes (blockSize h) (take (blockSize h) block) (replicate (blockSize h) pad))
     keyed-session fresh bits is none adding d =
         let S = double-block h in
-        ap (λ (x : Answer). x .session)
-        (d ∙ sym (added fresh (take b padded) true (sym is) refl _ refl (omega (arith, padded-count))))
+        let whole : fresh .taken % 8 ≡ 0 = omega arith in
+        ap (λ (x : Answer). x .session) (d ∙ takes-bytes fresh (take b padded) is whole (omega (arith, padded-count)))
         ∙ ap (addBytes fresh) padded-front

@@ -14,7 +14,7 @@ use lib.ListN.{getD, length}
 use lib.Seq.{ext-getD}
 use Rattle.aes_round.proofs.Laws.Xor.{code-xor, xor-self, xor-twice, xor-zero-l}
 use Rattle.aes_round.specs.Bytes.{xor}
-use Rattle.echo.proofs.Laws.Sessions.{both}
+use Rattle.echo.proofs.Laws.Zeros.{both}
 use Rattle.hmac.specs.Same.{same}
 
 -- ---- the same exactly where equal

@@ -2,9 +2,9 @@
 use mathlib.Core.Path.{_≡_, refl, sym, ap, ap₂, _∙_}
 use mathlib.Core.Bool.{Bool, true, false, not, _&&_, true≢false}
 use mathlib.Core.List.{List, _++_}
-use Prim.Native.Nat.{ℕ, _+_, _/_, _≤_}
+use Prim.Native.Nat.{ℕ, _+_, _*_, _/_, _%_, _^_, _<_, _≤_}
 use native.Mathlib.Omega.{arith}
-use borrow.Author.Tests.{eq-eqb, eqb-true, le-leb, leb-true, ltb-false, ltb-true, ne-eqb, not-false, not-true}
+use borrow.Author.Tests.{eq-eqb, eqb-true, le-leb, leb-true, lt-leb, ltb-false, ltb-true, ne-eqb, not-false, not-true}
 use lib.Dec.{eqb, leb, ltb}
 use lib.ListN.{drop, length, replicate, take}
 use lib.Seq.{length-take-le, take-at}
@@ -12,18 +12,20 @@ use Rattle.echo.specs.declared.mode.Mode.{Mode}
 use Rattle.echo.specs.declared.mode.Mode.the-variants.{DoublePipe, SinglePipe}
 use Rattle.echo.specs.declared.session.Answer.{Answer}
 use Rattle.echo.specs.declared.session.Session.{Session}
-use Rattle.echo.specs.Session.{addAnswer, isSession, limit, readAnswer, readLeaves, sessionDigest}
+use Rattle.echo.specs.Session.{addAnswer, bitLimit, isSession, readAnswer, readLeaves, sessionDigest}
 use Rattle.echo.proofs.Laws.Continued.{session-digest-long}
 use Rattle.echo.proofs.Laws.Families.{double-block}
 use Rattle.echo.proofs.Laws.Kept.{add-is-session, add-keeps}
-use Rattle.echo.proofs.Laws.Sessions.{added, added-much, bits-most, both, left-0, left-5, read-0, read-5, taken-most}
+use Rattle.echo.proofs.Laws.Pieces.{refuses-bytes, takes-bytes}
+use Rattle.echo.proofs.Laws.Sessions.{bits-most, left-0, left-5, read-0, read-5}
+use Rattle.echo.proofs.Laws.Zeros.{both}
 use Rattle.hmac.specs.declared.tag_session.Checking.{Checking}
 use Rattle.hmac.specs.declared.tag_session.TagAnswer.{TagAnswer}
 use Rattle.hmac.specs.declared.tag_session.TagSession.{TagSession}
 use Rattle.hmac.specs.DoublePipe.{blockSize, isDoublePipe}
 use Rattle.hmac.specs.Same.{same}
-use Rattle.hmac.specs.TagSession.{addTagAnswer, addTagBytes, addTagRefusal, checkTagAnswer, checkTagRefusal, closedBy, isTagSession}
-use Rattle.hmac.specs.TagSession.{readTagAnswer, readTagLeaves, readTagRefusal, sessionTag}
+use Rattle.hmac.specs.TagSession.{addTagAnswer, addTagBytes, addTagRefusal, checkTagAnswer, checkTagRefusal, closedBy, countsFit}
+use Rattle.hmac.specs.TagSession.{isTagSession, readTagAnswer, readTagLeaves, readTagRefusal, sessionTag}
 use Rattle.hmac.proofs.Laws.Same.{same-equal, same-self}
 
 -- ---- which records are tag sessions: the answers of is_session, by the tests i, o, m, d and s that the code made
@@ -54,7 +56,7 @@ module _ (t : TagSession) (i : Bool) (ei : i ≡ isSession (t .inner)) where
           left =
               eqb (t .inner .bits) (t .outer .bits)
               && (same (t .inner .salt) (t .outer .salt)
-              && (eqb (t .outer .taken) (blockSize (t .outer .bits)) && leb (blockSize (t .outer .bits)) (t .inner .taken)))
+              && countsFit (t .inner .taken) (t .outer .taken) (t .outer .bits))
 
           left-decides : left ≡ isTagSession t
           unfolding isTagSession
@@ -67,15 +69,28 @@ module _ (t : TagSession) (i : Bool) (ei : i ≡ isSession (t .inner)) where
             pub other-salt : not s ≡ true → false ≡ isTagSession t
             other-salt n = let fails : false ≡ left = rw (eq-eqb _ _ bits, ← es, not-true s n) in fails ∙ left-decides
 
-            module _ (salt : not s ≡ false) (b : ℕ) (size : b ≡ blockSize (t .outer .bits)) where
-              pub other-count : (t .outer .taken ≡ b → ⊥) → false ≡ isTagSession t
-              other-count n =
-                  let fails : false ≡ left = rw (eq-eqb _ _ bits, ← es, not-false s salt, ← size, ne-eqb (t .outer .taken) b n) in fails ∙ left-decides
+            pub counts-decide : not s ≡ false → (c : Bool) → c ≡ countsFit (t .inner .taken) (t .outer .taken) (t .outer .bits) → c ≡ isTagSession t
+            counts-decide salt c e =
+                let decides : countsFit (t .inner .taken) (t .outer .taken) (t .outer .bits) ≡ left = rw (eq-eqb _ _ bits, ← es, not-false s salt) in
+                e ∙ decides ∙ left-decides
 
-              pub right-count : t .outer .taken ≡ b → leb b (t .inner .taken) ≡ isTagSession t
-              right-count e =
-                  let decides : leb b (t .inner .taken) ≡ left = rw (eq-eqb _ _ bits, ← es, not-false s salt, ← size, eq-eqb (t .outer .taken) b e) in
-                  decides ∙ left-decides
+-- the counts, by the block size b that the code computed
+module _ (inner outer h b : ℕ) (size : b ≡ blockSize h) where
+  pub block-counted : 8 * b < 2 ^ 64
+  block-counted = let S = double-block h in omega arith
+
+  bits-of : 8 * blockSize h ≡ 8 * b
+  bits-of = ap (λ (x : ℕ). 8 * x) (sym size)
+
+  pub other-count : (outer ≡ 8 * b → ⊥) → false ≡ countsFit inner outer h
+  other-count n = rw (bits-of, ne-eqb outer (8 * b) n)
+
+  module _ (count : outer ≡ 8 * b) where
+    pub too-few : inner < 8 * b → false ≡ countsFit inner outer h
+    too-few n = rw (bits-of, eq-eqb outer (8 * b) count, lt-leb (8 * b) inner n)
+
+    pub right-count : 8 * b ≤ inner → eqb (inner % 8) 0 ≡ countsFit inner outer h
+    right-count n = rw (bits-of, eq-eqb outer (8 * b) count, le-leb (8 * b) inner n)
 
 double-pipe : (mode : Mode) → isDoublePipe mode ≡ true → mode ≡ DoublePipe
 double-pipe DoublePipe e = refl
@@ -88,8 +103,9 @@ pub record TagFits (t : TagSession) : Type 0 where
   pub outer-mode : t .outer .mode ≡ DoublePipe
   pub one-length : t .inner .bits ≡ t .outer .bits
   pub one-salt : t .inner .salt ≡ t .outer .salt
-  pub outer-block : t .outer .taken ≡ blockSize (t .outer .bits)
-  pub inner-more : blockSize (t .outer .bits) ≤ t .inner .taken
+  pub outer-block : t .outer .taken ≡ 8 * blockSize (t .outer .bits)
+  pub inner-more : 8 * blockSize (t .outer .bits) ≤ t .inner .taken
+  pub inner-whole : t .inner .taken % 8 ≡ 0
 
 pub tag-fits : (t : TagSession) → isTagSession t ≡ true → TagFits t
 unfolding isTagSession
@@ -100,7 +116,8 @@ tag-fits t e =
     let w = both (isDoublePipe (t .outer .mode)) _ (v .1) in
     let r = both (eqb (t .inner .bits) (t .outer .bits)) _ (w .1) in
     let s = both (same (t .inner .salt) (t .outer .salt)) _ (r .1) in
-    let u = both (eqb (t .outer .taken) (blockSize (t .outer .bits))) _ (s .1) in
+    let u = both (eqb (t .outer .taken) (8 * blockSize (t .outer .bits))) _ (s .1) in
+    let x = both (leb (8 * blockSize (t .outer .bits)) (t .inner .taken)) _ (u .1) in
     record {
       inner-is = p .0;
       outer-is = q .0;
@@ -109,15 +126,20 @@ tag-fits t e =
       one-length = eqb-true _ _ (r .0);
       one-salt = same-equal _ _ (s .0);
       outer-block = eqb-true _ _ (u .0);
-      inner-more = leb-true _ _ (u .1);
+      inner-more = leb-true _ _ (x .0);
+      inner-whole = eqb-true _ _ (x .1);
     }
 
 pub fits-tag : (t : TagSession) → TagFits t → isTagSession t ≡ true
 fits-tag t F =
-    sym (right-count t true (sym (F .inner-is)) refl true (sym (F .outer-is)) refl true
+    sym (counts-decide t true (sym (F .inner-is)) refl true (sym (F .outer-is)) refl true
     (sym (ap isDoublePipe (F .inner-mode))) refl true (sym (ap isDoublePipe (F .outer-mode))) refl (F .one-length) true
-    (sym (ap (same (t .inner .salt)) (sym (F .one-salt)) ∙ same-self (t .inner .salt))) refl _ refl (F .outer-block))
-    ∙ le-leb _ _ (F .inner-more)
+    (sym (ap (same (t .inner .salt)) (sym (F .one-salt)) ∙ same-self (t .inner .salt))) refl true counts)
+  where
+    counts : true ≡ countsFit (t .inner .taken) (t .outer .taken) (t .outer .bits)
+    counts =
+        sym (eq-eqb (t .inner .taken % 8) 0 (F .inner-whole))
+        ∙ right-count (t .inner .taken) (t .outer .taken) (t .outer .bits) _ refl (F .outer-block) (F .inner-more)
 
 -- ---- adding
 
@@ -129,22 +151,18 @@ module _ (t : TagSession) (piece : List ℕ) (a : Bool) (e : a ≡ isTagSession 
   pub added-to-inner : not a ≡ false → (x : Answer) → x ≡ addAnswer (t .inner) piece
       → _≡_ {A = TagAnswer} (record { refusal = x .refusal; session = record { inner = x .session; outer = t .outer } }) (addTagAnswer t piece)
   unfolding addTagAnswer addTagRefusal addTagBytes
-  added-to-inner holds x d = by (ltb limit (t .inner .taken + length piece)) refl
+  added-to-inner holds x d = by (ltb bitLimit (t .inner .taken + 8 * length piece)) refl
     where
-      is : true ≡ isSession (t .inner)
-      is = sym (tag-fits t (sym e ∙ not-false a holds) .inner-is)
+      F : TagFits t
+      F = tag-fits t (sym e ∙ not-false a holds)
 
-      few : t .inner .taken ≤ limit
-      few = taken-most (t .inner) true is refl
-
-      by : (b : Bool) → ltb limit (t .inner .taken + length piece) ≡ b
+      by : (b : Bool) → ltb bitLimit (t .inner .taken + 8 * length piece) ≡ b
           → _≡_ {A = TagAnswer} (record { refusal = x .refusal; session = record { inner = x .session; outer = t .outer } }) (addTagAnswer t piece)
       by true p =
-          let long = ltb-true limit (t .inner .taken + length piece) p in
-          rw (← e, not-false a holds, p, d, ← added-much (t .inner) piece true is refl (omega (arith, few, long)))
+          rw (← e, not-false a holds, p, d, refuses-bytes (t .inner) piece (F .inner-is) (ltb-true bitLimit (t .inner .taken + 8 * length piece) p))
       by false p =
-          let short = ltb-false limit (t .inner .taken + length piece) p in
-          rw (← e, not-false a holds, p, d, ← added (t .inner) piece true is refl _ refl (omega (arith, few, short)))
+          let short = ltb-false bitLimit (t .inner .taken + 8 * length piece) p in
+          rw (← e, not-false a holds, p, d, takes-bytes (t .inner) piece (F .inner-is) (F .inner-whole) short)
 
 -- ---- the outer session with the digest of the inner one
 
@@ -178,7 +196,10 @@ module _ (t : TagSession) (is : isTagSession t ≡ true) where
   inner-digest-long : length (sessionDigest (t .inner)) ≡ t .inner .bits / 8
   inner-digest-long = session-digest-long (t .inner) most
 
-  outer-room : t .outer .taken + length (sessionDigest (t .inner)) ≤ limit
+  outer-whole : t .outer .taken % 8 ≡ 0
+  outer-whole = omega (arith, fits .outer-block)
+
+  outer-room : t .outer .taken + 8 * length (sessionDigest (t .inner)) ≤ bitLimit
   outer-room = let S = double-block (t .outer .bits) in omega (arith, most, inner-digest-long, fits .outer-block)
 
   pub closes : (d : List ℕ) → d ≡ readLeaves (t .inner) (replicate 64 0) → (x : Answer) → x ≡ addAnswer (t .outer) (take (t .inner .bits / 8) d)
@@ -189,7 +210,7 @@ module _ (t : TagSession) (is : isTagSession t ≡ true) where
       (y
       ∙ ap (λ (l : List ℕ). addAnswer (t .outer) (take (t .inner .bits / 8) l)) e
       ∙ ap (addAnswer (t .outer)) (digest-read (t .inner) (fits .inner-is))
-      ∙ sym (added (t .outer) (sessionDigest (t .inner)) true (sym (fits .outer-is)) refl _ refl (omega (arith, outer-room))))
+      ∙ takes-bytes (t .outer) (sessionDigest (t .inner)) (fits .outer-is) outer-whole outer-room)
 
   pub closed-bits : closedBy t .bits ≡ t .outer .bits
   unfolding closedBy
@@ -197,7 +218,7 @@ module _ (t : TagSession) (is : isTagSession t ≡ true) where
 
   pub closed-is-session : isSession (closedBy t) ≡ true
   unfolding closedBy
-  closed-is-session = add-is-session (t .outer) (sessionDigest (t .inner)) (fits .outer-is) outer-room
+  closed-is-session = add-is-session (t .outer) (sessionDigest (t .inner)) (fits .outer-is) outer-whole outer-room
 
 -- ---- reading and checking
 

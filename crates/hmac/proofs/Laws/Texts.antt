@@ -2,7 +2,7 @@
 use mathlib.Core.Path.{_≡_, refl, sym, ap, ap₂, _∙_}
 use mathlib.Core.Bool.{true}
 use mathlib.Core.List.{List, _++_}
-use Prim.Native.Nat.{ℕ, _+_, _/_, _≤_}
+use Prim.Native.Nat.{ℕ, _+_, _*_, _/_, _%_, _≤_}
 use native.Mathlib.Omega.{arith}
 use borrow.Author.Tests.{eq-eqb, le-ltb}
 use lib.ListN.{drop, length, length-append}
@@ -11,7 +11,7 @@ use Rattle.aes_round.proofs.Laws.Xor.{length-xor}
 use Rattle.echo.specs.declared.mode.Mode.the-variants.{DoublePipe}
 use Rattle.echo.specs.declared.session.Session.{Session}
 use Rattle.echo.specs.Refusals.{unless}
-use Rattle.echo.specs.Session.{addBytes, admitted, isSession, limit, sessionDigest}
+use Rattle.echo.specs.Session.{addBytes, admitted, bitLimit, isSession, limit, sessionDigest}
 use Rattle.echo.proofs.Laws.Families.{double-block}
 use Rattle.echo.proofs.Laws.Kept.{add-keeps}
 use Rattle.echo.proofs.Laws.Opened.{add-pieces, opened-bits, opened-digest, opened-is-session, opened-mode, opened-taken}
@@ -59,8 +59,11 @@ module _ (h : ℕ) (salt key : List ℕ) where
   pub holds-bits : (m : List ℕ) → holding m .outer .bits ≡ h
   holds-bits m = ap (λ (s : Session). s .bits) (outer-is m) ∙ opened-bits DoublePipe h salt (padded (opad B))
 
-  pub holds-count : (m : List ℕ) → holding m .inner .taken ≡ B + length m
-  holds-count m = ap (λ (s : Session). s .taken) (inner-is m) ∙ opened-taken DoublePipe h salt (padded (ipad B) ++ m) ∙ inner-length m
+  pub holds-count : (m : List ℕ) → holding m .inner .taken ≡ 8 * (B + length m)
+  holds-count m =
+      ap (λ (s : Session). s .taken) (inner-is m)
+      ∙ opened-taken DoublePipe h salt (padded (ipad B) ++ m)
+      ∙ ap (λ (n : ℕ). 8 * n) (inner-length m)
 
   -- what is read is the standard's tag
   pub holds-tag : (m : List ℕ) → sessionTag (holding m) ≡ tagOf h salt key m
@@ -89,14 +92,16 @@ module _ (h : ℕ) (salt key : List ℕ) where
               ap (λ (s : Session). s .salt) (inner-is m) ∙ add-keeps (opened h salt) (padded (ipad B) ++ m) .1
               ∙ sym (ap (λ (s : Session). s .salt) (outer-is m) ∙ add-keeps (opened h salt) (padded (opad B)) .1);
           outer-block =
-              ap (λ (s : Session). s .taken) (outer-is m) ∙ opened-taken DoublePipe h salt (padded (opad B)) ∙ outer-length
-              ∙ ap blockSize (sym (holds-bits m));
+              ap (λ (s : Session). s .taken) (outer-is m)
+              ∙ opened-taken DoublePipe h salt (padded (opad B))
+              ∙ ap (λ (n : ℕ). 8 * n) (outer-length ∙ ap blockSize (sym (holds-bits m)));
           inner-more = rw (holds-bits m, holds-count m) (omega arith);
+          inner-whole = omega (arith, holds-count m);
         })
 
     takes-number : (m : List ℕ) (n : ℕ) → B + length m + n ≤ limit → addTagRefusal (holding m) n ≡ 0
     unfolding addTagRefusal
-    takes-number m n few = rw (holds-session m (omega arith), holds-count m, le-ltb limit (B + length m + n) few)
+    takes-number m n few = rw (holds-session m (omega arith), holds-count m, le-ltb bitLimit (8 * (B + length m) + 8 * n) (omega arith))
 
     pub takes-tag : (m piece : List ℕ) → B + length m + length piece ≤ limit
         → _≡_ {A = TagAnswer} (addTagAnswer (holding m) piece) (record { refusal = 0; session = holding (m ++ piece) })

@@ -1,7 +1,6 @@
 -- `is_session` meets its contract, a case for each return. Assumes nothing.
 use borrow.Author.Needs.{needs}
-use Rattle.hmac.proofs.Laws.TagSessions.{inner-other-mode, no-inner, no-outer, other-bits, other-count, other-salt, outer-other-mode}
-use Rattle.hmac.proofs.Laws.TagSessions.{right-count}
+use Rattle.hmac.proofs.Laws.TagSessions.{counts-decide, inner-other-mode, no-inner, no-outer, other-bits, other-salt, outer-other-mode}
 use Rattle.hmac.proofs.tag_session.TagSession.is_session.Statement.{statement}
 use Rattle.hmac.proofs.tag_session.TagSession.is_session.Tie as tie
 
@@ -44,14 +43,11 @@ same-requires c κs = search needs
 returns-6 : tie.Need-returns-6
 returns-6 c = search other-salt
 
-block-size-requires : tie.Need-block-size-requires
-block-size-requires c κs = search needs
+counts-fit-requires : tie.Need-counts-fit-requires
+counts-fit-requires c κs = search needs
 
 returns-7 : tie.Need-returns-7
-returns-7 c = search other-count
-
-returns-8 : tie.Need-returns-8
-returns-8 c = search right-count
+returns-7 c = search counts-decide
 
 pub is-session-spec : {M : Type 1} → statement M
 is-session-spec =
@@ -70,6 +66,5 @@ is-session-spec =
     slice-aggregate-same-2
     same-requires
     returns-6
-    block-size-requires
-    returns-7
-    returns-8)
+    counts-fit-requires
+    returns-7)

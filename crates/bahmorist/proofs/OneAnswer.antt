@@ -5,6 +5,7 @@ use mathlib.Core.Path.{_≡_, sym, _∙_}
 use denote.Ref.{now}
 use Rattle.bahmorist.proofs.bahmorist_digest.Reads as bahmorist_digest
 use Rattle.bahmorist.proofs.bahmorist_digest_in.Reads as digesting
+use Rattle.bahmorist.proofs.bahmorist_digest_bits.Reads as digesting_bits
 use Rattle.bahmorist.proofs.bahmorist_rounds.Reads as bahmorist_rounds
 use Rattle.bahmorist.proofs.bahmorist_rounds_back.Reads as bahmorist_rounds_back
 use Rattle.bahmorist.proofs.bahmorist_rounds_wide.Reads as bahmorist_rounds_wide
@@ -23,6 +24,10 @@ bahmorist-digest-has-one-answer κs a r r′ s s′ p q = (p .0 ∙ sym (q .0), 
 pub bahmorist-digest-in-has-one-answer : (κs : _) (a : _) (r r′ : _) (s s′ : _) → digesting.Post κs a r s → digesting.Post κs a r′ s′
     → (r ≡ r′) × (now (s .1 .1 .1 .1 .0) ≡ now (s′ .1 .1 .1 .1 .0))
 bahmorist-digest-in-has-one-answer κs a r r′ s s′ p q = (p .0 ∙ sym (q .0), p .1 ∙ sym (q .1))
+
+pub bahmorist-digest-bits-has-one-answer : (κs : _) (a : _) (r r′ : _) (s s′ : _) → digesting_bits.Post κs a r s → digesting_bits.Post κs a r′ s′
+    → (r ≡ r′) × (now (s .1 .1 .1 .1 .1 .0) ≡ now (s′ .1 .1 .1 .1 .1 .0))
+bahmorist-digest-bits-has-one-answer κs a r r′ s s′ p q = (p .0 ∙ sym (q .0), p .1 ∙ sym (q .1))
 
 pub bahmorist-rounds-has-one-answer : (κs : _) (a : _) (r r′ : _) (s s′ : _) → bahmorist_rounds.Post κs a r s → bahmorist_rounds.Post κs a r′ s′
     → (r ≡ r′) × (now (s .0) ≡ now (s′ .0))

@@ -8,9 +8,9 @@ use lib.ListN.{length}
 use Rattle.echo.specs.declared.mode.Mode.{Mode}
 use Rattle.echo.specs.Families.{modeNumber}
 use Rattle.echo.specs.Routines.{compressLeaves, compressRefusal, compressWideLeaves, compressWideRefusal}
-use Rattle.echo.specs.Session.{digestLeaves, digestRefusal}
+use Rattle.echo.specs.Session.{digestBitsLeaves, digestBitsRefusal, digestLeaves, digestRefusal}
 use Rattle.bahmorist.specs.Modes.{compressInLeaves, compressInRefusal, compressWideInLeaves, compressWideInRefusal}
-use Rattle.bahmorist.specs.Modes.{digestInLeaves, digestInRefusal, noMode}
+use Rattle.bahmorist.specs.Modes.{digestBitsInLeaves, digestBitsInRefusal, digestInLeaves, digestInRefusal, noMode}
 use Rattle.bahmorist.proofs.Laws.Modes as modes
 
 -- ---- a refusal, whose number is k + 1, changes nothing
@@ -20,6 +20,12 @@ pub a-refused-digest-in-a-mode-leaves-the-room : (k number h : ℕ) (salt messag
     → digestInLeaves number h salt message room ≡ room
 unfolding digestInLeaves
 a-refused-digest-in-a-mode-leaves-the-room k number h salt message room e = rw e refl
+
+pub a-refused-digest-of-bits-in-a-mode-leaves-the-room : (k number h : ℕ) (salt message : List ℕ) (count : ℕ) (room : List ℕ)
+    → digestBitsInRefusal number h (length salt) message count (length room) ≡ suc k
+    → digestBitsInLeaves number h salt message count room ≡ room
+unfolding digestBitsInLeaves
+a-refused-digest-of-bits-in-a-mode-leaves-the-room k number h salt message count room e = rw e refl
 
 pub a-refused-compression-in-a-mode-leaves-the-chaining-value : (k number : ℕ) (chaining block : List ℕ) (counter : ℕ) (salt : List ℕ)
     → compressInRefusal number (length chaining) (length block) counter (length salt) ≡ suc k
@@ -45,6 +51,16 @@ a-digest-in-a-mode-is-that-modes mode h salt message room =
       sym (modes.digest-left-on (modeNumber mode) h salt message room false (N .0) refl mode (N .1) _ refl),
     )
 
+pub a-digest-of-bits-in-a-mode-is-that-modes : (mode : Mode) (h : ℕ) (salt message : List ℕ) (count : ℕ) (room : List ℕ)
+    → (digestBitsInRefusal (modeNumber mode) h (length salt) message count (length room)
+    ≡ digestBitsRefusal h (length salt) message count (length room))
+    × (digestBitsInLeaves (modeNumber mode) h salt message count room ≡ digestBitsLeaves mode h salt message count room)
+a-digest-of-bits-in-a-mode-is-that-modes mode h salt message count room =
+    let N = modes.is-number mode in (
+      sym (modes.bits-passed-on (modeNumber mode) h salt message count room false (N .0) refl _ refl),
+      sym (modes.bits-left-on (modeNumber mode) h salt message count room false (N .0) refl mode (N .1) _ refl),
+    )
+
 pub a-compression-in-a-mode-is-that-modes : (mode : Mode) (chaining block : List ℕ) (counter : ℕ) (salt : List ℕ)
     → (compressInRefusal (modeNumber mode) (length chaining) (length block) counter (length salt)
     ≡ compressRefusal mode (length chaining) (length block) counter (length salt))
@@ -65,15 +81,17 @@ a-wide-compression-in-a-mode-is-that-modes mode chaining block counter salt =
       sym (modes.wide-left-on (modeNumber mode) chaining block counter salt false (N .0) refl mode (N .1) _ refl),
     )
 
-pub no-other-number-is-taken : (number h : ℕ) (salt message room chaining block : List ℕ) (counter : ℕ)
+pub no-other-number-is-taken : (number h : ℕ) (salt message room chaining block : List ℕ) (counter count : ℕ)
     → (number ≡ 0 → ⊥)
     → (number ≡ 1 → ⊥)
     → (digestInRefusal number h (length salt) (length message) (length room) ≡ 0 → ⊥)
+    × (digestBitsInRefusal number h (length salt) message count (length room) ≡ 0 → ⊥)
     × (compressInRefusal number (length chaining) (length block) counter (length salt) ≡ 0 → ⊥)
     × (compressWideInRefusal number (length chaining) (length block) (length salt) ≡ 0 → ⊥)
-no-other-number-is-taken number h salt message room chaining block counter z o =
+no-other-number-is-taken number h salt message room chaining block counter count z o =
     let none : true ≡ noMode number = rw (ne-eqb number 0 z, ne-eqb number 1 o) in (
       modes.digest-refuses number h salt message room true none refl,
+      modes.bits-refuses number h salt message count room true none refl,
       modes.compress-refuses number chaining block counter salt true none refl,
       modes.wide-refuses number chaining block counter salt true none refl,
     )

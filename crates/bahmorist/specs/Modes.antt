@@ -1,15 +1,15 @@
 -- Modes as numbers, for C, and what the routines that take such a number answer and leave behind, on every input. Assumes nothing.
 use mathlib.Core.Bool.{Bool, not, _||_}
 use mathlib.Core.List.{List, [], _∷_}
-use Prim.Native.Nat.{ℕ}
-use lib.Dec.{eqb}
+use Prim.Native.Nat.{ℕ, _/_}
+use lib.Dec.{eqb, ltb}
 use lib.ListN.{length}
 use Rattle.echo.specs.declared.mode.Mode.{Mode}
 use Rattle.echo.specs.declared.mode.Mode.the-variants.{DoublePipe, SinglePipe}
 use Rattle.echo.specs.Families.{either, modeNumber, sizesFit}
 use Rattle.echo.specs.Refusals.{_when_, counterTooHigh, firstOf, noSalt, unless}
 use Rattle.echo.specs.Routines.{compressLeaves, compressWideLeaves}
-use Rattle.echo.specs.Session.{digestLeaves, digestRefusal}
+use Rattle.echo.specs.Session.{admitted, bitLimit, digestBitsLeaves, digestLeaves, digestRefusal, otherSize, setBelow}
 
 -- 6: the number is no mode's
 abbrev pub noMode : ℕ → Bool
@@ -30,6 +30,22 @@ digestInRefusal number h saltLength messageLength room =
 unfoldable pub digestInLeaves : ℕ → ℕ → List ℕ → List ℕ → List ℕ → List ℕ
 digestInLeaves number h salt message room =
     unless (digestInRefusal number h (length salt) (length message) (length room)) (digestLeaves (modeOf number) h salt message room) room
+
+-- of so many bits of a message
+unfoldable pub digestBitsInRefusal : ℕ → ℕ → ℕ → List ℕ → ℕ → ℕ → ℕ
+digestBitsInRefusal number h saltLength message count room =
+    firstOf
+    ((1 when not (admitted h))
+    ∷ (2 when noSalt saltLength)
+    ∷ (4 when ltb bitLimit count)
+    ∷ (5 when ltb room (h / 8))
+    ∷ (6 when noMode number || otherSize (length message) count)
+    ∷ (17 when setBelow message count)
+    ∷ [])
+
+unfoldable pub digestBitsInLeaves : ℕ → ℕ → List ℕ → List ℕ → ℕ → List ℕ → List ℕ
+digestBitsInLeaves number h salt message count room =
+    unless (digestBitsInRefusal number h (length salt) message count (length room)) (digestBitsLeaves (modeOf number) h salt message count room) room
 
 -- ---- compression
 

@@ -1,6 +1,6 @@
 // The library as C and Rust see it: include/bahmorist.h declares these functions. A slice is a pointer and a length there. Each answers as
-// the routine of a layer below that it calls, and so its contract is that routine's; those that end in `_in`, and `bahmorist_compress_wide`, take a
-// mode as a number, and refuse a number that is no mode's by 6. Those that end in `_wide` take a counter of 128 bits by its halves.
+// the routine of a layer below that it calls, and so its contract is that routine's; those that end in `_in`, `bahmorist_digest_bits` and
+// `bahmorist_compress_wide` take a mode as a number, and refuse a number that is no mode's by 6. Those that end in `_wide` take a counter of 128 bits by its halves.
 mod modes;
 
 ghost use mathlib.Core.Path.{_≡_};
@@ -13,7 +13,7 @@ ghost use Rattle.hmac.specs.Routines.{checkAnswer, makeLeaves, makeRefusal};
 ghost use Rattle.steering.specs.Fingerprint.{fingerprintAnswer, fingerprintLeaves};
 ghost use Rattle.steering.specs.Parsing.{parse};
 ghost use Rattle.bahmorist.specs.Answers.{numberOf};
-ghost use Rattle.bahmorist.specs.Modes.{compressInLeaves, compressInRefusal, compressWideInLeaves, compressWideInRefusal, digestInLeaves, digestInRefusal};
+ghost use Rattle.bahmorist.specs.Modes.{compressInLeaves, compressInRefusal, compressWideInLeaves, compressWideInRefusal, digestBitsInLeaves, digestBitsInRefusal, digestInLeaves, digestInRefusal};
 use echo::Mode;
 use modes::mode_of;
 use modes::no_mode;
@@ -44,6 +44,27 @@ pub extern "C" fn bahmorist_digest_in(
         return if refusal == 0 { 6 } else { refusal };
     }
     echo::digest(mode_of(mode), bits, salt, message, out)
+}
+
+// The same of the first so many bits of a message, and 0; or a refusal by 1, 2, 4, 5, 6 or 17.
+#[no_mangle]
+pub extern "C" fn bahmorist_digest_bits(
+    mode: u8,
+    bits: u64,
+    salt: &[u8],
+    message: &[u8],
+    count: u64,
+    out: &mut [u8],
+) -> u8
+    ensures refusal { λ r. ⌜ r ≡ digestBitsInRefusal mode bits (length (now (salt .entry))) (now (message .entry)) count (length (now (out .entry))) ⌝ }
+    ensures left { λ _. ⌜ now (out .exit) ≡ digestBitsInLeaves mode bits (now (salt .entry)) (now (message .entry)) count (now (out .entry)) ⌝ }
+{
+    if no_mode(mode) {
+        let whole = (count / 8) as usize;
+        let refusal = echo::digest_refusal(bits, salt.len(), whole, out.len());
+        return if refusal == 0 { 6 } else { refusal };
+    }
+    echo::digest_bits(mode_of(mode), bits, salt, message, count, out)
 }
 
 // The square after 8 or 10 rounds that count on from `counter`, and 0; or a refusal by 2, 6 or 7.

@@ -2,22 +2,23 @@
 use mathlib.Core.Path.{_≡_, refl, sym, ap, _∙_}
 use mathlib.Core.Bool.{Bool, true, false, not, _||_}
 use mathlib.Core.List.{List, [], _∷_}
-use Prim.Native.Nat.{ℕ, zero, suc}
+use Prim.Native.Nat.{ℕ, zero, suc, _/_}
 use native.Mathlib.Omega.{arith}
 use borrow.Author.Tests.{eq-eqb, ne-eqb}
-use lib.Dec.{eqb}
+use lib.Dec.{eqb, ltb}
 use lib.ListN.{length}
 use Rattle.echo.specs.declared.mode.Mode.{Mode}
 use Rattle.echo.specs.declared.mode.Mode.the-variants.{DoublePipe, SinglePipe}
 use Rattle.echo.specs.Families.{modeNumber, sizesFit}
 use Rattle.echo.specs.Refusals.{Refusal, _when_, counterTooHigh, firstOf, noSalt, unless}
 use Rattle.echo.specs.Routines.{compressLeaves, compressRefusal, compressWideLeaves, compressWideRefusal}
-use Rattle.echo.specs.Session.{digestLeaves, digestRefusal}
-use Rattle.echo.proofs.Laws.Refusals.{compress-number, compress-wide-number}
+use Rattle.echo.specs.Session.{admitted, bitLimit, digestBitsLeaves, digestBitsRefusal, digestLeaves, digestRefusal, otherSize, setBelow}
+use Rattle.echo.proofs.Laws.Refusals.{compress-number, compress-wide-number, digest-bits-number, digest-whole-number}
 use Rattle.echo.proofs.Theorems.{a-refused-compression-leaves-the-chaining-value, a-refused-digest-leaves-the-room}
+use Rattle.echo.proofs.Theorems.{a-refused-digest-of-bits-leaves-the-room}
 use Rattle.echo.proofs.Theorems.{a-refused-wide-compression-leaves-the-chaining-value}
 use Rattle.bahmorist.specs.Modes.{compressInLeaves, compressInRefusal, compressWideInLeaves, compressWideInRefusal}
-use Rattle.bahmorist.specs.Modes.{digestInLeaves, digestInRefusal, modeOf, noMode}
+use Rattle.bahmorist.specs.Modes.{digestBitsInLeaves, digestBitsInRefusal, digestInLeaves, digestInRefusal, modeOf, noMode}
 
 -- ---- numbers and modes
 
@@ -102,6 +103,89 @@ module _ (n h : ℕ) (salt message room : List ℕ) where
           ∙ ap (λ (x : Mode). digestLeaves x h salt message room) m
           ∙ passed-on number _ room (λ k p. a-refused-digest-leaves-the-room k (modeOf n) h salt message room p)
           ∙ ap (λ (k : ℕ). unless k (digestLeaves (modeOf n) h salt message room) room) (sym same-number)
+
+-- ---- the digest of so many bits at once
+
+module _ (n h : ℕ) (salt message : List ℕ) (count : ℕ) (room : List ℕ) where
+  abbrev bits-number-in : ℕ
+  bits-number-in = digestBitsInRefusal n h (length salt) message count (length room)
+
+  -- where it is known whether the number is no mode's
+  abbrev listed : Bool → ℕ
+  listed t =
+      firstOf
+      ((1 when not (admitted h))
+      ∷ (2 when noSalt (length salt))
+      ∷ (4 when ltb bitLimit count)
+      ∷ (5 when ltb (length room) (h / 8))
+      ∷ (6 when t || otherSize (length message) count)
+      ∷ (17 when setBelow message count)
+      ∷ [])
+
+  module _ (t : Bool) (e : t ≡ noMode n) where
+    listed-is : (x : Bool) → t ≡ x → bits-number-in ≡ listed x
+    unfolding digestBitsInRefusal
+    listed-is x p = ap listed (sym e ∙ p)
+
+    -- none of its refusals is 0 then
+    six : (a b c d f : Bool)
+        → firstOf ((1 when a) ∷ (2 when b) ∷ (4 when c) ∷ (5 when d) ∷ (6 when true) ∷ (17 when f) ∷ [])
+        ≡ unless (firstOf ((1 when a) ∷ (2 when b) ∷ (4 when c) ∷ (5 when d) ∷ [])) 6 (firstOf ((1 when a) ∷ (2 when b) ∷ (4 when c) ∷ (5 when d) ∷ []))
+    six true b c d f = refl
+    six false true c d f = refl
+    six false false true d f = refl
+    six false false false true f = refl
+    six false false false false f = refl
+
+    module _ (none : t ≡ true) where
+      refused-by : bits-number-in ≡ unless (digestRefusal h (length salt) (count / 8) (length room)) 6 (digestRefusal h (length salt) (count / 8) (length room))
+      refused-by =
+          listed-is true none
+          ∙ six (not (admitted h)) (noSalt (length salt)) (ltb bitLimit count) (ltb (length room) (h / 8)) (setBelow message count)
+          ∙ ap (λ (k : ℕ). unless k 6 k) (sym (digest-whole-number h (length salt) count (length room)))
+
+      some : (k : ℕ) → unless k 6 k ≡ 0 → ⊥
+      some zero p = omega arith
+      some (suc k) p = omega arith
+
+      pub bits-refuses : bits-number-in ≡ 0 → ⊥
+      bits-refuses z = some (digestRefusal h (length salt) (count / 8) (length room)) (sym refused-by ∙ z)
+
+      -- either way something is refused
+      pub bits-no-mode-leaves : room ≡ digestBitsInLeaves n h salt message count room
+      unfolding digestBitsInLeaves
+      bits-no-mode-leaves = by bits-number-in bits-refuses
+        where
+          by : (k : ℕ) → (k ≡ 0 → ⊥) → room ≡ unless k (digestBitsLeaves (modeOf n) h salt message count room) room
+          by zero f = absurd (f refl)
+          by (suc k) f = refl
+
+      module _ (r : ℕ) (d : r ≡ digestRefusal h (length salt) (count / 8) (length room)) where
+        pub bits-6 : r ≡ 0 → 6 ≡ bits-number-in
+        bits-6 z = sym (refused-by ∙ ap (λ (k : ℕ). unless k 6 k) (sym d ∙ z))
+
+        pub bits-less : (r ≡ 0 → ⊥) → r ≡ bits-number-in
+        bits-less f = by r f ∙ ap (λ (k : ℕ). unless k 6 k) d ∙ sym refused-by
+          where
+            by : (k : ℕ) → (k ≡ 0 → ⊥) → k ≡ unless k 6 k
+            by zero f = absurd (f refl)
+            by (suc k) f = refl
+
+    module _ (one : t ≡ false) where
+      same-bits-number : digestBitsRefusal h (length salt) message count (length room) ≡ bits-number-in
+      same-bits-number = digest-bits-number h (length salt) message count (length room) ∙ sym (listed-is false one)
+
+      pub bits-passed-on : (r : ℕ) → r ≡ digestBitsRefusal h (length salt) message count (length room) → r ≡ bits-number-in
+      bits-passed-on r d = d ∙ same-bits-number
+
+      pub bits-left-on : (mode : Mode) → mode ≡ modeOf n → (u : List ℕ) → u ≡ digestBitsLeaves mode h salt message count room
+          → u ≡ digestBitsInLeaves n h salt message count room
+      unfolding digestBitsInLeaves
+      bits-left-on mode m u l =
+          l
+          ∙ ap (λ (x : Mode). digestBitsLeaves x h salt message count room) m
+          ∙ passed-on _ _ room (λ k p. a-refused-digest-of-bits-leaves-the-room k (modeOf n) h salt message count room p)
+          ∙ ap (λ (k : ℕ). unless k (digestBitsLeaves (modeOf n) h salt message count room) room) same-bits-number
 
 -- ---- compression, with what is refused behind 2 and 6
 

@@ -3,13 +3,14 @@
 //
 // A case is a head of 40 bytes: the task; the length of the piece, of the output room or of the tag; the digest length in bits (eight bytes); the
 // lengths of key and message (two each); the piece size (two; 0 for at once); seeds of key and message; the salt's length; five zeros; and sixteen salt
-// bytes. Behind the head of tasks 3 to 9 stand 1025 bytes: the inner and the outer session, each the digest length in bits (eight), the message bytes so
+// bytes. Behind the head from task 3 on stand 1025 bytes: the inner and the outer session, each the digest length in bits (eight), the message bytes so
 // far (eight), the salt (16), the chaining value's room (128), the waiting block's (224) and the mode (0 double-pipe, 1 single-pipe); then the room of
 // the piece, the output or the tag (255). Numbers have their least significant byte first. Byte i of key or message is seed + 29 i + 101 (i / 256),
 // modulo 256.
 //
 // The tasks are 1 a whole message, 2 open, 3 add, 4 read, 5 ask whether it is a tag session, 6 check; and 7 add, 8 read, 9 check, which print all of the
-// two sessions that are handed back, where 2, 3, 4 and 6 leave the modes and the waiting blocks' last 32 bytes out.
+// two sessions that are handed back, where 2, 3, 4 and 6 leave the modes and the waiting blocks' last 32 bytes out; and 10 add, 11 read, 12 ask, 13
+// check, which print all, and have message bits so far for bytes.
 ghost use Prim.Native.Nat.{_≤_, _+_, _<_};
 ghost use mathlib.Core.Path.{_≡_};
 ghost use lib.ListN.{length};
@@ -88,13 +89,42 @@ fn number_of(mode: Mode) -> u64 {
     }
 }
 
+// How a session is printed: all of it or what it had before it had a mode, by its bits or its bytes, and the counts that its two sessions were handed
+// over with.
+struct Form {
+    all: bool,
+    in_bits: bool,
+    inner: u64,
+    outer: u64,
+}
+
+// The bits of so many bytes; the highest number where they don't fit one, which is no session's count either.
+fn bits_of(bytes: u64) -> u64 {
+    if bytes < 0x2000_0000_0000_0000 {
+        return 8 * bytes;
+    }
+    u64::MAX
+}
+
+// The count of a session that is handed back, in bits or in bytes. A record whose bits don't fit a number comes back as it was given.
+fn counted(in_bits: bool, given: u64, taken: u64) -> u64 {
+    if in_bits {
+        return taken;
+    }
+    if given < 0x2000_0000_0000_0000 {
+        return taken / 8;
+    }
+    given
+}
+
 // The digest session, or the record that is none, from the place `at` on.
-fn digest_session(body: &[u8], at: usize) -> Session
+fn digest_session(body: &[u8], at: usize, in_bits: bool) -> Session
     requires { ⌜ at ≤ 385 ⌝ }
     requires { ⌜ at + 385 ≤ length (now body) ⌝ }
 {
     let bits = long(body, at);
-    let taken = long(body, at + 8);
+    let given = long(body, at + 8);
+    let taken = if in_bits { given } else { bits_of(given) };
     let mut salt = [0u8; 16];
     take(body, at + 16, &mut salt);
     let mut chaining = [0u8; 128];
@@ -111,11 +141,11 @@ fn digest_session(body: &[u8], at: usize) -> Session
     }
 }
 
-fn tag_session(body: &[u8]) -> TagSession
+fn tag_session(body: &[u8], in_bits: bool) -> TagSession
     requires { ⌜ length (now body) ≡ 1025 ⌝ }
 {
-    let inner = digest_session(body, 0);
-    let outer = digest_session(body, 385);
+    let inner = digest_session(body, 0, in_bits);
+    let outer = digest_session(body, 385, in_bits);
     TagSession {
         inner: inner,
         outer: outer,
@@ -183,30 +213,32 @@ fn put_rooms(line: &mut [u8], at: usize, session: Session, all: bool) -> usize
     put_waiting(line, chained, &waiting, all)
 }
 
-fn put_digest_session(line: &mut [u8], at: usize, session: Session, all: bool) -> usize
+fn put_digest_session(line: &mut [u8], at: usize, session: Session, count: u64, all: bool) -> usize
     requires { ⌜ at ≤ length (now line) ⌝ }
     ensures { λ r. ⌜ r ≤ length (now (line .exit)) ⌝ }
 {
     let mode = session.mode;
     let moded = put_mode(line, at, mode, all);
     let bits = put_number(line, moded, session.bits);
-    let taken = put_number(line, bits, session.taken);
+    let taken = put_number(line, bits, count);
     put_rooms(line, taken, session, all)
 }
 
-fn put_session(line: &mut [u8], at: usize, session: TagSession, all: bool) -> usize
+fn put_session(line: &mut [u8], at: usize, session: TagSession, form: Form) -> usize
     requires { ⌜ at ≤ length (now line) ⌝ }
     ensures { λ r. ⌜ r ≤ length (now (line .exit)) ⌝ }
 {
-    let inner = put_digest_session(line, at, session.inner, all);
-    put_digest_session(line, inner, session.outer, all)
+    let inner_count = counted(form.in_bits, form.inner, session.inner.taken);
+    let inner = put_digest_session(line, at, session.inner, inner_count, form.all);
+    let outer_count = counted(form.in_bits, form.outer, session.outer.taken);
+    put_digest_session(line, inner, session.outer, outer_count, form.all)
 }
 
-fn put_answer(line: &mut [u8], answer: TagAnswer, all: bool) -> usize
+fn put_answer(line: &mut [u8], answer: TagAnswer, form: Form) -> usize
     ensures { λ r. ⌜ r ≤ length (now (line .exit)) ⌝ }
 {
     let refused = put_decimal(line, 0, answer.refusal as u64);
-    put_session(line, refused, answer.session, all)
+    put_session(line, refused, answer.session, form)
 }
 
 fn print_refused(number: u8) {
@@ -227,27 +259,27 @@ fn print_tag(tag: &[u8], right: bool, other: bool) {
     io::write_all(STDOUT_FILENO, &line[0..end]);
 }
 
-fn print_answer(answer: TagAnswer, all: bool) {
+fn print_answer(answer: TagAnswer, form: Form) {
     let mut line = [0u8; 2048];
-    let answered = put_answer(&mut line, answer, all);
+    let answered = put_answer(&mut line, answer, form);
     let end = put(&mut line, answered, b"\n");
     io::write_all(STDOUT_FILENO, &line[0..end]);
 }
 
 // The answer, and the room that was lent.
-fn print_with_room(answer: TagAnswer, room: &[u8], all: bool) {
+fn print_with_room(answer: TagAnswer, room: &[u8], form: Form) {
     let mut line = [0u8; 2560];
-    let answered = put_answer(&mut line, answer, all);
+    let answered = put_answer(&mut line, answer, form);
     let roomed = put_bytes(&mut line, answered, room);
     let end = put(&mut line, roomed, b"\n");
     io::write_all(STDOUT_FILENO, &line[0..end]);
 }
 
-fn print_checking(checking: Checking, all: bool) {
+fn print_checking(checking: Checking, form: Form) {
     let mut line = [0u8; 2048];
     let refused = put_decimal(&mut line, 0, checking.refusal as u64);
     let said = put_verdict(&mut line, refused, checking.yes);
-    let handed_back = put_session(&mut line, said, checking.session, all);
+    let handed_back = put_session(&mut line, said, checking.session, form);
     let end = put(&mut line, handed_back, b"\n");
     io::write_all(STDOUT_FILENO, &line[0..end]);
 }
@@ -399,9 +431,15 @@ fn with_key(head: &[u8])
     if head[0] == 1 {
         whole(head, &key[0..key_end], &message[0..message_end], salt_end);
     } else {
+        let form = Form {
+            all: false,
+            in_bits: false,
+            inner: 0,
+            outer: 0,
+        };
         print_answer(
             TagSession::open(long(head, 2), &head[24..salt_end], &key[0..key_end]),
-            false,
+            form,
         );
     }
 }
@@ -409,37 +447,42 @@ fn with_key(head: &[u8])
 // ---- tag sessions
 
 // Lends the room, and prints what is in it afterwards.
-fn read(session: TagSession, room: &mut [u8], all: bool) {
+fn read(session: TagSession, room: &mut [u8], form: Form) {
     let answer = session.read(room);
-    print_with_room(answer, room, all);
+    print_with_room(answer, room, form);
 }
 
 // Lends the first n bytes of a room that is the case's.
-fn read_into(session: TagSession, body: &[u8], n: usize, all: bool)
+fn read_into(session: TagSession, body: &[u8], n: usize, form: Form)
     requires { ⌜ length (now body) ≡ 1025 ⌝ }
     requires { ⌜ n ≤ 255 ⌝ }
 {
     let mut room = [0u8; 255];
     take(body, 770, &mut room);
-    read(session, &mut room[0..n], all);
+    read(session, &mut room[0..n], form);
 }
 
-// Tasks 3 to 9, on a record that is handed over.
+// Tasks from 3 on, on a record that is handed over.
 fn with_session(task: u8, n: usize, body: &[u8])
     requires { ⌜ length (now body) ≡ 1025 ⌝ }
     requires { ⌜ n ≤ 255 ⌝ }
 {
-    let session = tag_session(body);
+    let form = Form {
+        all: 6 < task,
+        in_bits: 9 < task,
+        inner: long(body, 8),
+        outer: long(body, 393),
+    };
+    let session = tag_session(body, form.in_bits);
     let end = 770 + n;
-    let all = 6 < task;
-    if task == 3 || task == 7 {
-        print_answer(session.add(&body[770..end]), all);
-    } else if task == 4 || task == 8 {
-        read_into(session, body, n, all);
-    } else if task == 5 {
+    if task == 3 || task == 7 || task == 10 {
+        print_answer(session.add(&body[770..end]), form);
+    } else if task == 4 || task == 8 || task == 11 {
+        read_into(session, body, n, form);
+    } else if task == 5 || task == 12 {
         print_whether(session.is_session());
     } else {
-        print_checking(session.check(&body[770..end]), all);
+        print_checking(session.check(&body[770..end]), form);
     }
 }
 

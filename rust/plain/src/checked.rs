@@ -3,9 +3,9 @@
 
 use crate::aes::Word;
 use crate::mode::Mode::{self, DoublePipe};
-use crate::refusal::{self, COUNTER_LIMIT, MESSAGE_LIMIT};
+use crate::refusal::{self, BIT_LIMIT, COUNTER_LIMIT, MESSAGE_LIMIT};
 use crate::square::Square;
-use crate::{compression, family, square, table};
+use crate::{bits, compression, family, square, table};
 
 /// Bytes of a fingerprint.
 pub const FINGERPRINT: usize = 32;
@@ -18,14 +18,40 @@ pub fn digest(bits: u64, salt: &[u8], message: &[u8], out: &mut [u8]) -> u8 {
 
 /// The same in the mode of a number. Refusals 1, 2, 4, 5, 6.
 pub fn digest_in(mode: u8, bits: u64, salt: &[u8], message: &[u8], out: &mut [u8]) -> u8 {
-    let refused = digest_refusal(bits, salt.len(), message.len() as u64, out.len());
+    digest_bits(
+        mode,
+        bits,
+        salt,
+        message,
+        in_bits(message.len() as u64),
+        out,
+    )
+}
+
+/// The same of a message of so many bits, the most significant bit of a byte first.
+/// Refusals 1, 2, 4, 5, 6, 17.
+pub fn digest_bits(
+    mode: u8,
+    bits: u64,
+    salt: &[u8],
+    message: &[u8],
+    message_bits: u64,
+    out: &mut [u8],
+) -> u8 {
+    let refused = digest_bits_refusal(bits, salt.len(), message_bits, out.len());
     if refused != refusal::NONE {
         return refused;
     }
     let Some(mode) = Mode::of_number(mode) else {
         return refusal::SHAPE;
     };
-    let digest = crate::digest::digest(mode, bits, &word(salt), message);
+    if message.len() as u64 != message_bits.div_ceil(8) {
+        return refusal::SHAPE;
+    }
+    if !bits::zero_behind(message, message_bits) {
+        return refusal::SET_BITS;
+    }
+    let digest = crate::digest::digest_bits(mode, bits, &word(salt), message, message_bits);
     out[..digest.len()].copy_from_slice(&digest);
     refusal::NONE
 }
@@ -34,17 +60,29 @@ pub fn digest_in(mode: u8, bits: u64, salt: &[u8], message: &[u8], out: &mut [u8
 /// messages that no memory holds. It is that of [`digest_in`] too, where the
 /// number has a mode.
 pub fn digest_refusal(bits: u64, salt: usize, message: u64, room: usize) -> u8 {
+    digest_bits_refusal(bits, salt, in_bits(message), room)
+}
+
+/// The same of [`digest_bits`], where the number has a mode, and the bytes are those
+/// of the message.
+pub fn digest_bits_refusal(bits: u64, salt: usize, message_bits: u64, room: usize) -> u8 {
     if !family::admitted(bits) {
         refusal::DIGEST_LENGTH
     } else if salt != 16 {
         refusal::SALT
-    } else if message > MESSAGE_LIMIT {
+    } else if message_bits > BIT_LIMIT {
         refusal::MESSAGE
     } else if room < bits as usize / 8 {
         refusal::ROOM
     } else {
         refusal::NONE
     }
+}
+
+/// The bits of so many bytes; where no number of 64 bits holds them, one that is over
+/// the limit as they are.
+fn in_bits(bytes: u64) -> u64 {
+    bytes.saturating_mul(8)
 }
 
 /// The tag of `bits` bits under a key, into the first bits / 8 bytes of `out`;

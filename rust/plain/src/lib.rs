@@ -1,4 +1,5 @@
-//! ECHO 2.0 in both modes, tags under a key and the steering tables above it, byte by byte.
+//! ECHO 2.0 in both modes, of messages of any number of bits, tags under a key and the
+//! steering tables above it, byte by byte.
 //!
 //! ECHO follows Part I, sections 1 to 5, of the ECHO paper; the AES round
 //! follows FIPS 197, and tags follow FIPS 198-1. Nothing here is shared with the
@@ -12,6 +13,7 @@
 #![forbid(unsafe_code)]
 
 pub mod aes;
+pub mod bits;
 pub mod checked;
 pub mod compression;
 pub mod digest;

@@ -7,6 +7,7 @@ use crate::aes::Word;
 use crate::family;
 use crate::hmac::{key_blocks, KeyBlocks};
 use crate::mode::Mode::DoublePipe;
+use crate::padding::msize;
 use crate::refusal::{self, MESSAGE_LIMIT};
 use crate::session::{self, Session};
 
@@ -44,17 +45,18 @@ impl TagSession {
 
     /// Whether the record is a tag session: both are digest sessions in
     /// double-pipe of one digest length and one salt, the outer one has taken a
-    /// block and no more, and the inner one a block at least.
+    /// block and no more, and the inner one a block at least, in whole bytes.
     pub fn is_session(&self) -> bool {
         let TagSession { inner, outer } = self;
         if !inner.is_session() || !outer.is_session() {
             return false;
         }
-        let block = family::of_bits(DoublePipe, outer.bits).block as u64;
+        let block = msize(DoublePipe, outer.bits);
         [inner.mode, outer.mode] == [DoublePipe; 2]
             && inner.bits == outer.bits
             && inner.salt == outer.salt
             && inner.taken >= block
+            && inner.taken.is_multiple_of(8)
             && outer.taken == block
     }
 

@@ -79,6 +79,87 @@ fn digest_refuses_messages_that_no_memory_holds() {
 }
 
 #[test]
+fn digest_of_bits() {
+    for mode in MODES {
+        for bits in [128, 256, 264, 512] {
+            let size = bits as usize / 8;
+            for (message, length) in [
+                (&[][..], 0),
+                (&[0x80], 1),
+                (&[0], 1),
+                (&[0xfe], 7),
+                (&[0xff], 8),
+                (&[0xff, 0x80], 9),
+            ] {
+                let mut out = [0xee; 80];
+                let number = mode.number();
+                let done = digest_bits(number, bits, &SALT, message, length, &mut out);
+                assert_eq!(done, 0);
+                let expected = crate::digest::digest_bits(mode, bits, &SALT, message, length);
+                assert_eq!(out[..size], expected);
+                assert_eq!(out[size..], [0xee; 80][size..]);
+            }
+        }
+    }
+}
+
+/// In every place of a part of a byte, and alone where nothing else is wrong.
+#[test]
+fn digest_of_bits_refuses_set_bits_behind_the_last_one() {
+    for mode in MODES {
+        let number = mode.number();
+        for length in 1..8 {
+            for place in 0..8 {
+                let message = [0x33, 0x80 >> place];
+                let refused = digest_bits(number, 256, &SALT, &message, 8 + length, &mut [0; 32]);
+                assert_eq!(refused, if place < length { 0 } else { 17 });
+            }
+        }
+    }
+}
+
+/// Mode, digest length, salt, message in bytes and bits, and room.
+#[test]
+fn digest_of_bits_refuses_the_lowest_number_and_writes_nothing() {
+    let most = u64::MAX - 160;
+    let mut out = [0xee; 32];
+    for (mode, bits, salt, bytes, length, room, number) in [
+        (2, 127, 15, 1, u64::MAX, 0, 1),
+        (2, 256, 17, 1, u64::MAX, 0, 2),
+        (2, 256, 16, 1, most + 1, 0, 4),
+        (0, 256, 16, 1, most + 1, 32, 4),
+        (0, 256, 16, 1, most, 31, 5),
+        (0, 256, 16, 1, most, 32, 6),
+        (2, 256, 16, 1, 1, 31, 5),
+        (2, 256, 16, 1, 1, 32, 6),
+        (255, 256, 16, 1, 8, 32, 6),
+        (1, 256, 16, 1, 0, 32, 6),
+        (1, 256, 16, 1, 9, 32, 6),
+        (1, 256, 16, 2, 8, 32, 6),
+        (1, 256, 16, 0, 1, 32, 6),
+        (1, 256, 16, 1, 1, 31, 5),
+        (1, 256, 16, 1, 1, 32, 17),
+        (0, 256, 16, 3, 23, 32, 17),
+    ] {
+        let (salt, message) = (&[9; 17][..salt], &[0xff; 3][..bytes]);
+        let refused = digest_bits(mode, bits, salt, message, length, &mut out[..room]);
+        assert_eq!(refused, number, "{length} bits");
+        assert_eq!(out, [0xee; 32]);
+    }
+}
+
+#[test]
+fn digest_of_bits_refuses_messages_that_no_memory_holds() {
+    let most = u64::MAX - 160;
+    assert_eq!(digest_bits_refusal(256, 16, most, 32), 0);
+    assert_eq!(digest_bits_refusal(256, 16, most + 1, 32), 4);
+    assert_eq!(digest_bits_refusal(256, 16, most, 31), 5);
+    assert_eq!(digest_bits_refusal(256, 16, u64::MAX, 31), 4);
+    assert_eq!(digest_bits_refusal(256, 15, u64::MAX, 31), 2);
+    assert_eq!(digest_bits_refusal(100, 15, u64::MAX, 31), 1);
+}
+
+#[test]
 fn a_tag_fills_only_its_room() {
     let mut out = [0xee; 40];
     assert_eq!(hmac(264, &SALT, b"key", b"abc", &mut out), 0);

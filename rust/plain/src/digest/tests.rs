@@ -45,7 +45,7 @@ fn counters_of_the_scope() {
         (512, 110, &[880, 0]),
         (512, 128, &[1024, 0]),
     ] {
-        assert_eq!(counters(DoublePipe, bits, n), expected);
+        assert_eq!(counters(DoublePipe, bits, 8 * n), expected);
     }
 }
 
@@ -66,7 +66,45 @@ fn counters_in_single_pipe() {
         (512, 192, &[1536, 0]),
         (512, 193, &[1536, 1544]),
     ] {
-        assert_eq!(counters(SinglePipe, bits, n), expected);
+        assert_eq!(counters(SinglePipe, bits, 8 * n), expected);
+    }
+}
+
+/// A bit more or less at each edge.
+#[test]
+fn counters_count_bits() {
+    for (mode, bits, length, expected) in [
+        (DoublePipe, 256, 1, &[1][..]),
+        (DoublePipe, 256, 1391, &[1391]),
+        (DoublePipe, 256, 1392, &[1392, 0]),
+        (DoublePipe, 256, 1535, &[1535, 0]),
+        (DoublePipe, 256, 1536, &[1536, 0]),
+        (DoublePipe, 256, 1537, &[1536, 1537]),
+        (DoublePipe, 512, 879, &[879]),
+        (DoublePipe, 512, 880, &[880, 0]),
+        (DoublePipe, 512, 1025, &[1024, 1025]),
+        (SinglePipe, 256, 1647, &[1647]),
+        (SinglePipe, 256, 1648, &[1648, 0]),
+        (SinglePipe, 256, 1793, &[1792, 1793]),
+        (SinglePipe, 512, 2927, &[1536, 2927]),
+        (SinglePipe, 512, 2928, &[1536, 2928, 0]),
+    ] {
+        assert_eq!(counters(mode, bits, length), expected);
+    }
+}
+
+/// The last block of the longest message, which no number of 64 bits counts to the
+/// end of.
+#[test]
+fn the_counter_of_the_longest_message() {
+    let longest = u64::MAX - 160;
+    for mode in MODES {
+        for bits in [256, 512] {
+            let last = block_count(mode, bits, longest) - 1;
+            assert_eq!(counter(mode, bits, longest, last), longest);
+            let before = counter(mode, bits, longest, last - 1);
+            assert_eq!(before, longest - 863);
+        }
     }
 }
 
@@ -132,4 +170,74 @@ fn the_modes_have_different_digests() {
         let [double, single] = MODES.map(|mode| digest(mode, bits, &salt, b"abc"));
         assert_ne!(double, single);
     }
+}
+
+/// A message of whole bytes has one digest, by its bytes and by its bits.
+#[test]
+fn whole_bytes_keep_their_digests() {
+    let salt = [4; 16];
+    for mode in MODES {
+        for bits in [256, 512] {
+            for n in 0..=400 {
+                let message: Vec<u8> = (0..n).map(|i| (5 * i + 2) as u8).collect();
+                let by_bits = digest_bits(mode, bits, &salt, &message, 8 * n);
+                assert_eq!(by_bits, digest(mode, bits, &salt, &message));
+            }
+        }
+    }
+}
+
+/// Two blocks, each written out: the first is full, and the second has three bits of
+/// the message and the "1" behind them.
+#[test]
+fn a_digest_of_bits_block_by_block() {
+    let salt = [6; 16];
+    for (mode, bits, b) in [
+        (DoublePipe, 256, 192),
+        (DoublePipe, 512, 128),
+        (SinglePipe, 256, 224),
+        (SinglePipe, 512, 192),
+    ] {
+        let mut message: Vec<u8> = (0..b).map(|i| (3 * i + 1) as u8).collect();
+        message.push(0b0110_0000);
+        let length = 8 * b as u64 + 3;
+        let mut last = vec![0b0111_0000];
+        last.resize(b - 18, 0);
+        last.extend([0, (bits / 256) as u8]);
+        last.extend(u128::from(length).to_le_bytes());
+        let mut chaining = initial(mode, bits);
+        compress(mode, &mut chaining, &message[..b], 8 * b as u128, &salt);
+        compress(mode, &mut chaining, &last, length.into(), &salt);
+        let digest = digest_bits(mode, bits, &salt, &message, length);
+        assert_eq!(digest, chaining[..bits as usize / 8]);
+    }
+}
+
+/// No two lengths of one row of zeros have one digest.
+#[test]
+fn every_bit_counts() {
+    let mut met = std::collections::HashSet::new();
+    for length in 0..=100 {
+        let zeros = vec![0; (length as usize).div_ceil(8)];
+        met.insert(digest_bits(DoublePipe, 256, &[0; 16], &zeros, length));
+    }
+    assert_eq!(met.len(), 101);
+}
+
+/// What `examples/capture.c` prints first; the gate looks it up here.
+#[test]
+fn the_digest_of_the_example_in_c() {
+    let mut capture: [u8; 174] = std::array::from_fn(|i| i as u8);
+    capture[173] &= 0xfe;
+    let digest = digest_bits(DoublePipe, 256, &[0; 16], &capture, 1391);
+    assert_eq!(
+        hex::encode(&digest),
+        "80d89d133eec6b1c67c43e9f8b4662583e9474e2f1a63a2bbd3d3352b7d46de9"
+    );
+}
+
+#[test]
+#[should_panic(expected = "bytes of 9 bits")]
+fn bytes_that_do_not_hold_the_message_are_a_mistake_of_the_caller() {
+    digest_bits(DoublePipe, 256, &[0; 16], &[0], 9);
 }

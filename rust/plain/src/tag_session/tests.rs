@@ -29,16 +29,16 @@ fn opened(bits: u64, key: &[u8]) -> TagSession {
     session
 }
 
-/// A digest session that no opening made: with its waiting bytes in use all 77,
-/// and its chaining value all of one byte.
-fn digest_session(bits: u64, taken: u64, chaining: u8) -> Session {
+/// A digest session of so many bytes that no opening made: with its waiting bytes in
+/// use all 77, and its chaining value all of one byte.
+fn digest_session(bits: u64, bytes: u64, chaining: u8) -> Session {
     let mut session = Session {
         bits,
         salt: SALT,
-        taken,
+        taken: 8 * bytes,
         ..session::BLANK
     };
-    session.waiting[..taken as usize % block(bits)].fill(0x77);
+    session.waiting[..bytes as usize % block(bits)].fill(0x77);
     session.chaining[..256 - block(bits)].fill(chaining);
     session
 }
@@ -69,7 +69,7 @@ fn from_an_opening_every_cut_gives_the_tag() {
                 for (piece, so_far) in [(&message[..cut], cut), (&message[cut..], length)] {
                     assert_eq!(session.add(piece), 0);
                     assert!(session.is_session());
-                    assert_eq!(session.inner.taken, (b + so_far) as u64);
+                    assert_eq!(session.inner.taken, 8 * (b + so_far) as u64);
                 }
                 assert_eq!(tag(&session), expected);
             }
@@ -127,7 +127,7 @@ fn an_opening_takes_a_block_into_both_sessions() {
             assert_eq!(part.chaining[..256 - b], chaining);
             assert_eq!(part.chaining[256 - b..], [0; 128][..b - 128]);
             assert_eq!((part.bits, part.salt), (bits, SALT));
-            assert_eq!((part.taken, part.waiting), (b as u64, [0; 224]));
+            assert_eq!((part.taken, part.waiting), (8 * b as u64, [0; 224]));
         }
     }
 }
@@ -167,19 +167,19 @@ fn what_is_no_tag_session() {
         assert!(!changed(|s| s.outer.waiting[191] = 1, bits, b + 5));
         assert!(!changed(|s| s.inner.waiting[192] = 1, bits, b + 5));
         assert!(!changed(|s| s.outer.waiting[223] = 1, bits, b + 5));
-        assert!(!changed(|s| s.inner.taken += 1, bits, LIMIT));
+        assert!(!changed(|s| s.inner.taken += 8, bits, LIMIT));
         assert!(!changed(|s| s.outer.taken = u64::MAX, bits, b));
         let long = bits > 256;
         assert_eq!(changed(|s| s.inner.chaining[64] = 1, bits, b), long);
         assert_eq!(changed(|s| s.outer.chaining[127] = 1, bits, b), long);
         // Each is one, but they have another number of bytes behind them.
         assert!(!changed(|s| s.outer.taken = 0, bits, b));
-        assert!(!changed(|s| s.outer.taken -= 1, bits, b));
-        assert!(!changed(|s| s.outer.taken += 1, bits, b));
+        assert!(!changed(|s| s.outer.taken -= 8, bits, b));
+        assert!(!changed(|s| s.outer.taken += 8, bits, b));
         assert!(!changed(|s| s.outer.taken *= 2, bits, b));
         assert!(!changed(|s| s.inner.taken = 0, bits, b));
-        assert!(!changed(|s| s.inner.taken -= 1, bits, b));
-        assert!(changed(|s| s.inner.taken += 1, bits, b));
+        assert!(!changed(|s| s.inner.taken -= 8, bits, b));
+        assert!(changed(|s| s.inner.taken += 8, bits, b));
         for place in 0..16 {
             for outer in [false, true] {
                 let mut session = forged(bits, b);
@@ -199,19 +199,47 @@ fn what_is_no_tag_session() {
     assert!(!changed(|s| s.outer.bits = 504, 512, 192));
     assert!(!changed(|s| s.inner.bits = 256, 264, 192));
     assert!(!changed(|s| s.outer.bits = 264, 256, 192));
-    assert!(!changed(|s| s.outer.taken = 128, 256, 192));
-    assert!(!changed(|s| s.outer.taken = 192, 264, 192));
-    assert!(!changed(|s| s.inner.taken = 128, 256, 192));
+    assert!(!changed(|s| s.outer.taken = 8 * 128, 256, 192));
+    assert!(!changed(|s| s.outer.taken = 8 * 192, 264, 192));
+    assert!(!changed(|s| s.inner.taken = 8 * 128, 256, 192));
+}
+
+/// A part of a byte in either session, of every size, each of which is a digest
+/// session; in the inner one near a block and at the limit.
+#[test]
+fn a_part_of_a_byte_makes_it_none() {
+    for bits in LENGTHS {
+        let b = block(bits) as u64;
+        for part in 1..8 {
+            for taken in [b, b + 5, LIMIT] {
+                for outer in [false, true] {
+                    let mut session = forged(bits, taken);
+                    let one = match outer {
+                        true => &mut session.outer,
+                        false => &mut session.inner,
+                    };
+                    one.taken += part;
+                    assert!(one.is_session());
+                    assert!(!session.is_session());
+                    let mut same = session.clone();
+                    assert_eq!([same.add(&[]), same.add(&[0])], [3, 3]);
+                    assert_eq!(same, session);
+                    assert_eq!(session.read(&mut [0; 64]), 3);
+                    assert_eq!(session.check(&[]), (3, false));
+                }
+            }
+        }
+    }
 }
 
 /// Right but for the mode of one session or of both, each of which is a digest
 /// session in that mode, and has taken the one mode's block or the other's.
 #[test]
 fn no_session_of_a_tag_session_is_single_pipe() {
-    let with = |bits, modes: [Mode; 2], taken| {
+    let with = |bits, modes: [Mode; 2], taken: u64| {
         let [mut inner, mut outer] = [0x55, 0x66].map(|byte| digest_session(bits, 0, byte));
         for (part, mode) in [&mut inner, &mut outer].into_iter().zip(modes) {
-            (part.mode, part.taken) = (mode, taken);
+            (part.mode, part.taken) = (mode, 8 * taken);
             part.chaining[32..].fill(0);
             assert!(part.is_session());
         }
@@ -287,7 +315,7 @@ fn adding_goes_on_in_the_inner_session_alone() {
 #[test]
 fn reading_refuses_the_lowest_number_and_writes_nothing() {
     let mut bad = forged(264, 128);
-    bad.outer.taken = 129;
+    bad.outer.taken = 8 * 129;
     let mut out = [0xee; 40];
     for (session, room, number) in [
         (forged(256, 192), 31, 5),

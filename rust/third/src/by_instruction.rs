@@ -52,7 +52,13 @@ fn halves(counter: u128) -> Counter {
     }
 }
 
-pub fn digest(mode: Mode, bits: u64, salt: &Word, message: &[u8]) -> Option<Vec<u8>> {
+pub fn digest(
+    mode: Mode,
+    bits: u64,
+    salt: &Word,
+    message: &[u8],
+    message_bits: u64,
+) -> Option<Vec<u8>> {
     // SAFETY: the instruction is there.
-    present().then(|| unsafe { message::digest(mode, bits, *salt, message) })
+    present().then(|| unsafe { message::digest(mode, bits, *salt, message, message_bits) })
 }

@@ -34,7 +34,7 @@ mod by_instruction {
         false
     }
 
-    pub fn digest(_: Mode, _: u64, _: &Word, _: &[u8]) -> Option<Vec<u8>> {
+    pub fn digest(_: Mode, _: u64, _: &Word, _: &[u8], _: u64) -> Option<Vec<u8>> {
         None
     }
 }
@@ -78,14 +78,33 @@ pub fn compress(mode: Mode, chaining: &mut [u8], block: &[u8], counter: u128, sa
     by_instruction::compress(mode, chaining, block, counter, salt)
 }
 
-/// The digest of `bits` bits; none where the processor has no such instruction.
-/// Panics unless the digest length is a multiple of 8 from 128 to 512.
+/// The digest of `bits` bits of a message of whole bytes; none where the processor has
+/// no such instruction. Panics unless the digest length is a multiple of 8 from 128 to
+/// 512.
 pub fn digest(mode: Mode, bits: u64, salt: &Word, message: &[u8]) -> Option<Vec<u8>> {
+    digest_bits(mode, bits, salt, message, 8 * message.len() as u64)
+}
+
+/// The same of a message of so many bits, the most significant bit of a byte first.
+/// Panics too unless they fill the bytes but for fewer than eight zeros at the end.
+pub fn digest_bits(
+    mode: Mode,
+    bits: u64,
+    salt: &Word,
+    message: &[u8],
+    message_bits: u64,
+) -> Option<Vec<u8>> {
     assert!(
         (128..=512).contains(&bits) && bits.is_multiple_of(8),
         "no digest has {bits} bits"
     );
-    by_instruction::digest(mode, bits, salt, message)
+    let unused = (8 * message.len() as u64).wrapping_sub(message_bits);
+    let last = message.last().copied().unwrap_or(0);
+    assert!(
+        unused < 8 && u64::from(last.trailing_zeros()) >= unused,
+        "bytes of another message than one of {message_bits} bits"
+    );
+    by_instruction::digest(mode, bits, salt, message, message_bits)
 }
 
 /// The tag of `bits` bits under a key, by digests in double-pipe; none where the

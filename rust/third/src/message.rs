@@ -13,32 +13,38 @@ const MOST: usize = 2 * 14 * 16;
 /// rest of the sixteen words. The rounds go by the digest length alone.
 #[inline]
 #[target_feature(enable = "aes")]
-pub fn digest(mode: Mode, bits: u64, salt: Word, message: &[u8]) -> Vec<u8> {
+pub fn digest(mode: Mode, bits: u64, salt: Word, message: &[u8], bit_count: u64) -> Vec<u8> {
     let salt = load(salt);
     match (mode, bits) {
-        (Mode::SinglePipe, ..=256) => iterate::<2>(bits, 8, salt, message),
-        (Mode::SinglePipe, _) => iterate::<4>(bits, 10, salt, message),
-        (Mode::DoublePipe, ..=256) => iterate::<4>(bits, 8, salt, message),
-        (Mode::DoublePipe, _) => iterate::<8>(bits, 10, salt, message),
+        (Mode::SinglePipe, ..=256) => iterate::<2>(bits, 8, salt, message, bit_count),
+        (Mode::SinglePipe, _) => iterate::<4>(bits, 10, salt, message, bit_count),
+        (Mode::DoublePipe, ..=256) => iterate::<4>(bits, 8, salt, message, bit_count),
+        (Mode::DoublePipe, _) => iterate::<8>(bits, 10, salt, message, bit_count),
     }
 }
 
 /// All blocks of a message taken into a chaining value of C words.
 #[target_feature(enable = "aes")]
-fn iterate<const C: usize>(bits: u64, count: u64, salt: Vector, message: &[u8]) -> Vec<u8> {
+fn iterate<const C: usize>(
+    bits: u64,
+    count: u64,
+    salt: Vector,
+    message: &[u8],
+    bit_count: u64,
+) -> Vec<u8> {
     let block_bytes = 16 * (16 - C);
-    let bit_count = 8 * message.len() as u64;
     let mut chaining = [load(u128::from(bits).to_le_bytes()); C];
-    let whole = message.chunks_exact(block_bytes);
-    let (end, size) = last_blocks(bits, bit_count, whole.remainder(), block_bytes);
+    let whole = (bit_count / (8 * block_bytes as u64)) as usize * block_bytes;
+    let (whole, left) = message.split_at(whole);
+    let (end, size) = last_blocks(bits, bit_count, left, block_bytes);
     // A block that holds nothing of the message has the counter 0.
-    let first = match whole.remainder() {
+    let first = match left {
         [] => 0,
         _ => bit_count,
     };
     let taken = (1..).map(|blocks| 8 * blocks * block_bytes as u64);
     let end = end[..size].chunks_exact(block_bytes).zip([first, 0]);
-    for (block, counter) in whole.zip(taken).chain(end) {
+    for (block, counter) in whole.chunks_exact(block_bytes).zip(taken).chain(end) {
         let counter = Counter {
             low: counter,
             high: 0,
@@ -50,15 +56,17 @@ fn iterate<const C: usize>(bits: u64, count: u64, salt: Vector, message: &[u8]) 
     bytes
 }
 
-/// What stands behind the whole blocks, and its size: the bytes that are left,
-/// the byte 80, zeros up to 18 bytes before the end of this block or, where they
-/// don't fit, of one more, and the two lengths.
+/// What stands behind the whole blocks, and its size: the bytes that are left, a bit
+/// set in the last of them or, where that is whole, in the next one, zeros up to 18
+/// bytes before the end of this block or, where that bit does not fit, of one more, and
+/// the two lengths.
 fn last_blocks(bits: u64, bit_count: u64, left: &[u8], block_bytes: usize) -> ([u8; MOST], usize) {
     let mut end = [0; MOST];
-    let fits = left.len() < block_bytes - 18;
+    let marked = (bit_count / 8) as usize % block_bytes;
+    let fits = marked < block_bytes - 18;
     let size = if fits { block_bytes } else { 2 * block_bytes };
     end[..left.len()].copy_from_slice(left);
-    end[left.len()] = 0x80;
+    end[marked] |= 0x80 >> (bit_count % 8);
     end[size - 18..size - 16].copy_from_slice(&(bits as u16).to_le_bytes());
     end[size - 16..size - 8].copy_from_slice(&bit_count.to_le_bytes());
     (end, size)

@@ -169,6 +169,64 @@ fn digests_of_every_message_length_are_the_plain_digests() {
     }
 }
 
+/// Every length of a message in bits up to past the third block's end, in both modes
+/// and both families.
+#[test]
+fn digests_of_every_length_in_bits_are_the_plain_digests() {
+    let mut generator = Generator::new(8);
+    for length in 0..=3 * 8 * 224 + 17 {
+        for bits in [256, 512] {
+            agrees_in_bits(bits, &mut generator, length);
+        }
+    }
+}
+
+/// Every digest length, with each number of bits around the first block's ends.
+#[test]
+fn digests_of_bits_around_the_edges_are_the_plain_digests() {
+    let mut generator = Generator::new(9);
+    for bits in (128..=512).step_by(8) {
+        for block in [1024, 1536, 1792] {
+            for edge in [0, block - 145, block] {
+                for length in edge..=edge + 8 {
+                    agrees_in_bits(bits, &mut generator, length);
+                }
+            }
+        }
+    }
+}
+
+/// The digest of a message of so many bits in both modes is that of `plain`.
+fn agrees_in_bits(bits: u64, generator: &mut Generator, length: u64) {
+    let (salt, mut message) = (
+        generator.bytes(),
+        generator.vector(length.div_ceil(8) as usize),
+    );
+    if let Some(last) = message.last_mut() {
+        *last &= 0xff << (8 * length.div_ceil(8) - length);
+    }
+    for (mode, plain) in [
+        (DoublePipe, plain::mode::Mode::DoublePipe),
+        (SinglePipe, plain::mode::Mode::SinglePipe),
+    ] {
+        if let Some(given) = digest_bits(mode, bits, &salt, &message, length) {
+            let expected = plain::digest::digest_bits(plain, bits, &salt, &message, length);
+            assert_eq!(given, expected, "{mode:?}, {bits} bits of {length}");
+        }
+    }
+}
+
+/// The value that the tests of `plain` have for `examples/capture.c`.
+#[test]
+fn the_digest_of_the_example_in_c() {
+    let mut capture: [u8; 174] = std::array::from_fn(|i| i as u8);
+    capture[173] = 0xac;
+    if let Some(given) = digest_bits(DoublePipe, 256, &[0; 16], &capture, 1391) {
+        let tests = include_str!("../../plain/src/digest/tests.rs");
+        assert!(tests.contains(&format!("\"{}\"", hex::encode(&given))));
+    }
+}
+
 #[test]
 fn digests_of_random_messages_are_the_plain_digests() {
     let mut generator = Generator::new(4);
@@ -211,6 +269,18 @@ fn tags_are_the_plain_tags() {
             }
         }
     }
+}
+
+#[test]
+#[should_panic(expected = "bytes of another message than one of 7 bits")]
+fn set_bits_that_are_not_used_are_a_mistake_of_the_caller() {
+    digest_bits(DoublePipe, 256, &[0; 16], &[0x81], 7);
+}
+
+#[test]
+#[should_panic(expected = "bytes of another message than one of 8 bits")]
+fn bytes_that_are_not_used_are_a_mistake_of_the_caller() {
+    digest_bits(DoublePipe, 256, &[0; 16], &[0x81, 0], 8);
 }
 
 #[test]

@@ -1,6 +1,7 @@
 //! Cases of the program `digest_cases`: digests at once and over a session, in both
-//! modes, done and refused.
+//! modes, of messages in bytes and in bits, done and refused.
 
+mod in_bits;
 mod record;
 mod refused;
 mod single_pipe;
@@ -40,6 +41,7 @@ fn cases() -> Vec<Case> {
     cases.extend(block_edges(&mut generator));
     cases.extend(refused::cases(&mut generator));
     cases.extend(single_pipe::cases(&mut Generator::new(7)));
+    cases.extend(in_bits::cases(&mut Generator::new(12)));
     cases
 }
 

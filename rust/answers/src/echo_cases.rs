@@ -129,7 +129,7 @@ fn empty_messages(generator: &mut Generator) -> Vec<Case> {
         .map(|bits| {
             let (chaining, block) = (
                 digest::initial(DoublePipe, bits),
-                padding::pad(DoublePipe, bits, b""),
+                padding::pad(DoublePipe, bits, b"", 0),
             );
             let (a, b) = (chaining.len(), block.len());
             let mut case = Case::compress(generator, Kind::Compress, a as u16, b as u16, 0);

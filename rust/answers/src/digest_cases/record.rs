@@ -16,6 +16,9 @@ pub struct Case {
     pub bits: u16,
     /// Bytes of the message.
     pub length: u16,
+    /// Bits of the last byte that are not in use, fewer than eight, where the functions
+    /// for bits are asked; none where those for bytes are.
+    pub unused: Option<u8>,
     /// The message's first byte.
     pub seed: u8,
     /// Bytes of each piece that a session is given, or 0 for a digest at once.
@@ -26,12 +29,13 @@ pub struct Case {
 }
 
 impl Case {
-    /// A case in double-pipe, with everything else from the generator.
+    /// A case in double-pipe and in bytes, with everything else from the generator.
     pub fn new(generator: &mut Generator, bits: u16, length: u16, piece: u16) -> Case {
         Case {
             mode: Mode::DoublePipe,
             bits,
             length,
+            unused: None,
             seed: generator.below(256) as u8,
             piece,
             salt_length: 16,
@@ -48,21 +52,37 @@ impl Case {
         record.extend(self.piece.to_le_bytes());
         record.push(self.salt_length);
         record.push(self.mode.number());
-        record.extend([0; 7]);
+        record.push(self.unused.map_or(0, |unused| 1 + unused));
+        record.extend([0; 6]);
         record.extend(self.salt);
         record
     }
 
+    /// The message, with zeros for the bits that are not in use.
     pub fn message(&self) -> Vec<u8> {
-        patterned(self.seed, self.length)
+        let mut message = patterned(self.seed, self.length);
+        if let Some(last) = message.last_mut() {
+            *last &= 0xff << self.unused.unwrap_or(0);
+        }
+        message
+    }
+
+    /// Bits of the message.
+    pub fn message_bits(&self) -> u64 {
+        8 * u64::from(self.length) - u64::from(self.unused.unwrap_or(0))
     }
 
     /// The digest, or the refusal number. The pieces make no difference to it.
     pub fn answer(&self) -> Result<Vec<u8>, u8> {
         let (mode, bits) = (self.mode.number(), self.bits.into());
         let salt = &self.salt[..usize::from(self.salt_length)];
+        let (message, count) = (self.message(), self.message_bits());
         let mut room = [0; 64];
-        match checked::digest_in(mode, bits, salt, &self.message(), &mut room) {
+        let number = match self.unused {
+            None => checked::digest_in(mode, bits, salt, &message, &mut room),
+            Some(_) => checked::digest_bits(mode, bits, salt, &message, count, &mut room),
+        };
+        match number {
             refusal::NONE => Ok(room[..usize::from(self.bits) / 8].to_vec()),
             number => Err(number),
         }

@@ -24,20 +24,37 @@ fn records_have_their_layout() {
         let record = case.record();
         assert_eq!(record.len(), RECORD);
         assert!(case.length <= 1024 && case.salt_length <= 16);
-        assert!(record[8] <= 1);
-        assert_eq!(record[9..16], [0; 7]);
+        assert!(record[8] <= 1 && record[9] <= if case.length == 0 { 1 } else { 8 });
+        assert_eq!(record[10..16], [0; 6]);
     }
-    let case = Case {
+    let mut case = Case {
         mode: SinglePipe,
         bits: 0x0201,
         length: 0x0403,
+        unused: None,
         seed: 5,
         piece: 0x0706,
         salt_length: 8,
         salt: std::array::from_fn(|i| 16 + i as u8),
     };
-    let numbers = [1, 2, 3, 4, 5, 6, 7, 8, 1];
-    assert_eq!(case.record(), [&numbers[..], &[0; 7], &case.salt].concat());
+    for (unused, ninth) in [(None, 0), (Some(0), 1), (Some(7), 8)] {
+        case.unused = unused;
+        let numbers = [1, 2, 3, 4, 5, 6, 7, 8, 1, ninth];
+        assert_eq!(case.record(), [&numbers[..], &[0; 6], &case.salt].concat());
+    }
+}
+
+/// The cases of before, in bytes.
+fn in_bytes() -> Vec<Case> {
+    let mut cases = cases();
+    cases.retain(|case| case.unused.is_none());
+    cases
+}
+
+#[test]
+fn cases_in_bits_stand_behind_all_others() {
+    let first = cases().iter().position(|case| case.unused.is_some());
+    assert_eq!(first, Some(in_bytes().len()));
 }
 
 #[test]
@@ -51,12 +68,30 @@ fn messages_by_their_rule() {
     assert_eq!((message[256], message[1023]), (0x63, 0x10));
     case.length = 0;
     assert_eq!(case.message(), b"");
+    assert_eq!(case.message_bits(), 0);
+}
+
+/// The low bits of the last byte that are not in use are cleared.
+#[test]
+fn messages_in_bits_by_their_rule() {
+    let mut case = Case::new(&mut Generator::new(2), 256, 2, 0);
+    case.seed = 0xe2;
+    assert_eq!(
+        (case.message(), case.message_bits()),
+        (vec![0xe2, 0xff], 16)
+    );
+    for unused in 0..8 {
+        case.unused = Some(unused);
+        assert_eq!(case.message(), [0xe2, 0xff << unused]);
+        assert_eq!(case.message_bits(), 16 - u64::from(unused));
+    }
 }
 
 #[test]
 fn only_the_refused_cases_are_refused() {
-    let mut counts = [[0; 3]; 2];
+    let mut counts = [[[0; 3]; 2]; 2];
     for case in cases() {
+        let counts = &mut counts[usize::from(case.unused.is_some())];
         let counts = &mut counts[usize::from(case.mode.number())];
         match case.answer() {
             Ok(digest) => {
@@ -72,17 +107,21 @@ fn only_the_refused_cases_are_refused() {
     // Done are 8 of empty messages, and 23 messages in three cuts for each of 49
     // digest lengths. Refused for the digest length are 18 with a salt of 16
     // bytes and 36 with another; for the salt alone, 16.
-    assert_eq!(counts[0], [8 + 49 * 23 * 3, 18 + 36, 16]);
+    assert_eq!(counts[0][0], [8 + 49 * 23 * 3, 18 + 36, 16]);
     // In single-pipe, every length to 3 bytes past three blocks in both families,
     // and 19 messages in two cuts for each of 49 digest lengths.
     let every_length = (3 * 224 + 4) + (3 * 192 + 4);
-    assert_eq!(counts[1], [every_length + 49 * 19 * 2, 18 + 36, 16]);
+    assert_eq!(counts[0][1], [every_length + 49 * 19 * 2, 18 + 36, 16]);
+    // In bits, every length to 4,700 in both families, and 17 messages around each of
+    // four edges for each of 49 digest lengths, in both modes.
+    let done = 2 * 4701 + 49 * 4 * 17;
+    assert_eq!(counts[1], [[done, 18 + 36, 16]; 2]);
 }
 
 #[test]
 fn every_kind_of_hand_over_is_met() {
     for (mode, blocks, cuts) in [(DoublePipe, 4, CUTS), (SinglePipe, 3, single_pipe::CUTS)] {
-        let mut done = cases();
+        let mut done = in_bytes();
         done.retain(|case| case.mode == mode && case.answer().is_ok());
         let lengths: HashSet<u16> = done.iter().map(|case| case.bits).collect();
         assert_eq!(lengths.len(), 49);
@@ -157,6 +196,110 @@ fn pieces_with_a_reading_behind_each_give_the_answer_in_single_pipe() {
         assert_eq!(session.read(&mut room), 0);
         let digest = case.answer().expect("a digest");
         assert_eq!(room[..digest.len()], digest);
+    }
+}
+
+/// All lengths in bits, each size of a part of a byte with each cut, and among them
+/// the last message that leaves room for its padding in a block and the first that
+/// doesn't.
+#[test]
+fn every_length_in_bits_is_met() {
+    let cases = in_bits::every_length(&mut Generator::new(12));
+    for (mode, bits, edges) in [
+        (
+            DoublePipe,
+            256,
+            [1391, 1392, 1536, 2927, 2928, 3072, 4463, 4464, 4608],
+        ),
+        (
+            DoublePipe,
+            512,
+            [879, 880, 1024, 1903, 1904, 2048, 2927, 2928, 3072],
+        ),
+        (
+            SinglePipe,
+            256,
+            [1647, 1648, 1792, 3439, 3440, 3584, 4000, 4001, 4700],
+        ),
+        (
+            SinglePipe,
+            512,
+            [1391, 1392, 1536, 2927, 2928, 3072, 4463, 4464, 4608],
+        ),
+    ] {
+        let mut family = cases.clone();
+        family.retain(|case| case.mode == mode && case.bits == bits);
+        let lengths: Vec<u64> = family.iter().map(Case::message_bits).collect();
+        assert_eq!(lengths, (0..=4700).collect::<Vec<u64>>());
+        assert!(edges.iter().all(|edge| lengths.contains(edge)));
+        for unused in 0..8 {
+            let same = family.iter().filter(|case| case.unused == Some(unused));
+            let pieces: HashSet<u16> = same.map(|case| case.piece).collect();
+            let b = block(mode, bits);
+            for piece in [0, 1, 5, 7, 13, 64, b - 1, b, b + 1, 1000] {
+                assert!(pieces.contains(&piece), "{unused} and {piece}");
+            }
+        }
+    }
+}
+
+/// Every size of a part of a byte on both sides of every edge, for every digest length.
+#[test]
+fn every_edge_meets_every_part_of_a_byte() {
+    let cases = in_bits::block_edges(&mut Generator::new(12));
+    for edges in cases.chunks(4 * 17) {
+        let (mode, bits) = (edges[0].mode, edges[0].bits);
+        let msize = 8 * u64::from(block(mode, bits));
+        let last = [msize - 145, msize, 2 * msize - 145, 2 * msize];
+        for (edge, cases) in last.into_iter().zip(edges.chunks(17)) {
+            assert!(cases
+                .iter()
+                .all(|case| (case.mode, case.bits) == (mode, bits)));
+            let lengths: Vec<u64> = cases.iter().map(Case::message_bits).collect();
+            assert_eq!(lengths, (edge - 8..=edge + 8).collect::<Vec<u64>>());
+        }
+    }
+    assert_eq!(cases.len(), 2 * 49 * 4 * 17);
+    let at_once = cases.iter().filter(|case| case.piece == 0).count();
+    assert_eq!(at_once, cases.len() / 10);
+}
+
+/// What the program does with pieces in bits, step by step.
+#[test]
+fn pieces_in_bits_with_a_reading_behind_each_give_the_answer() {
+    let mut cases = in_bits::cases(&mut Generator::new(12));
+    cases.retain(|case| case.piece > 0 && case.answer().is_ok());
+    for case in cases {
+        let (number, mut session) = Session::open(case.mode, case.bits.into(), &case.salt);
+        assert_eq!(number, 0);
+        let mut room = [0; 64];
+        let mut rest = case.message_bits();
+        for piece in case.message().chunks(case.piece.into()) {
+            let count = rest.min(8 * piece.len() as u64);
+            assert_eq!(
+                [session.add_bits(piece, count), session.read(&mut room)],
+                [0, 0]
+            );
+            rest -= count;
+        }
+        assert_eq!([session.read(&mut room), rest as u8], [0, 0]);
+        let digest = case.answer().expect("a digest");
+        assert_eq!(room[..digest.len()], digest);
+    }
+}
+
+/// Whole bytes in bits are what they are in bytes.
+#[test]
+fn whole_bytes_have_one_answer() {
+    let mut cases = in_bits::cases(&mut Generator::new(12));
+    cases.retain(|case| case.unused == Some(0));
+    for case in cases {
+        let line = case.line();
+        let bytes = Case {
+            unused: None,
+            ..case
+        };
+        assert_eq!(bytes.line(), line);
     }
 }
 

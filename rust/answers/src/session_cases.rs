@@ -1,7 +1,9 @@
 //! Cases of the program `session_cases`: sessions of both modes that need not come
-//! from an opening, nor be sessions at all, opened, added to, read and asked about.
+//! from an opening, nor be sessions at all, opened, added to, read and asked about, in
+//! bytes and in bits.
 
 pub mod forged;
+mod in_bits;
 mod in_both_modes;
 mod near_sessions;
 mod no_sessions;
@@ -9,6 +11,7 @@ pub mod record;
 mod refused;
 #[cfg(test)]
 mod tests;
+pub mod units;
 
 use crate::file::File;
 use forged::{forged, in_family, last_edge, Lengths, FAMILIES};
@@ -46,6 +49,7 @@ fn cases() -> Vec<Case> {
     cases.extend(no_sessions::cases(&mut generator));
     cases.extend(refused::cases(&mut generator, DoublePipe));
     cases.extend(in_both_modes::cases(&mut Generator::new(9)));
+    cases.extend(in_bits::cases(&mut Generator::new(13)));
     cases
 }
 

@@ -2,7 +2,7 @@
 
 use plain::family;
 use plain::mode::Mode;
-use plain::refusal::MESSAGE_LIMIT;
+use plain::refusal::{BIT_LIMIT, MESSAGE_LIMIT};
 use plain::session::{Session, BLANK};
 use seeded::Generator;
 
@@ -55,8 +55,13 @@ pub fn last_edge(block: u64) -> u64 {
     MESSAGE_LIMIT - MESSAGE_LIMIT % block
 }
 
-/// A session with these numbers and everything else from the generator, but for
-/// the room that is not in use.
+/// The same in bits.
+pub fn last_edge_in_bits(block: u64) -> u64 {
+    BIT_LIMIT - BIT_LIMIT % (8 * block)
+}
+
+/// A session with these numbers, in bytes, and everything else from the generator, but
+/// for the room that is not in use.
 pub fn forged(generator: &mut Generator, mode: Mode, bits: u64, taken: u64) -> Session {
     let family = family::of_bits(mode, bits);
     let mut session = Session {
@@ -72,6 +77,21 @@ pub fn forged(generator: &mut Generator, mode: Mode, bits: u64, taken: u64) -> S
     let in_use = (taken % family.block as u64) as usize;
     session.waiting[..in_use].copy_from_slice(&waiting[..in_use]);
     session.chaining[family.chaining..].fill(0);
+    session
+}
+
+/// A session that counts bits, likewise.
+pub fn forged_bits(generator: &mut Generator, mode: Mode, bits: u64, taken: u64) -> Session {
+    let mut session = forged(generator, mode, bits, taken.div_ceil(8));
+    let in_use = taken % (8 * family::of_bits(mode, bits).block as u64);
+    if in_use % 8 != 0 {
+        // Where the byte is the last of its block, none of those is in use in bytes.
+        let whole = in_use as usize / 8;
+        let waiting = generator.vector(whole + 1);
+        session.waiting[..=whole].copy_from_slice(&waiting);
+        session.waiting[whole] &= !(0xff >> (in_use % 8));
+    }
+    session.taken = taken;
     session
 }
 

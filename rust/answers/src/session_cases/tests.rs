@@ -1,5 +1,7 @@
+mod in_bits;
+
 use super::forged::families;
-use super::record::{RECORD, ROOM};
+use super::record::{RECORD, RECORD_IN_BITS, ROOM};
 use super::*;
 use plain::digest;
 use plain::mode::Mode::{self, SinglePipe};
@@ -18,7 +20,14 @@ fn block(mode: Mode, bits: u64) -> u64 {
     }
 }
 
-/// Why a record is no session, by the words of the rule.
+/// The cases on sessions that count bytes.
+fn in_bytes() -> Vec<Case> {
+    let mut cases = cases();
+    cases.retain(|case| case.in_bits.is_none());
+    cases
+}
+
+/// Why a record that counts bytes is no session, by the words of the rule.
 fn reasons(session: &Session) -> Vec<&'static str> {
     let b = block(session.mode, session.bits);
     let in_use = session.taken % b;
@@ -44,7 +53,7 @@ fn refusals(case: &Case) -> Vec<u8> {
         Task::Open => holding([(1, !admitted), (2, case.length < 16)]),
         Task::Add => holding([no_session, (4, long)]),
         Task::Read => holding([no_session, (5, u64::from(case.length) < bits / 8)]),
-        Task::IsSession => vec![],
+        Task::AddBits | Task::IsSession => vec![],
     }
 }
 
@@ -58,7 +67,7 @@ const GROUPS: [(Mode, bool); 3] = [(DoublePipe, false), (DoublePipe, true), (Sin
 
 /// The cases of a group, but for sessions that come from the other mode.
 fn group(mode: Mode, with_mode: bool) -> Vec<Case> {
-    let mut cases = cases();
+    let mut cases = in_bytes();
     cases.truncate(cases.len() - 18);
     cases.retain(|case| (case.session.mode, case.with_mode) == (mode, with_mode));
     cases
@@ -87,6 +96,7 @@ fn records_have_their_layout() {
     let mut case = Case {
         task: Task::Read,
         with_mode: false,
+        in_bits: None,
         length: 3,
         session: Session {
             mode: SinglePipe,
@@ -105,8 +115,8 @@ fn records_have_their_layout() {
         waiting,
         ..
     } = &case.session;
-    let parts = [&numbers[..], salt, chaining, waiting, &[1], &case.room];
-    assert_eq!(case.record(), parts.concat());
+    let record = [&numbers[..], salt, chaining, waiting, &[1], &case.room].concat();
+    assert_eq!(case.record(), record);
     assert_eq!(case.record().len(), RECORD);
     let tasks = [Task::Add, Task::Read, Task::IsSession, Task::Open];
     for (with_mode, numbers) in [(false, [1, 2, 3, 4]), (true, [5, 6, 3, 7])] {
@@ -114,6 +124,18 @@ fn records_have_their_layout() {
             (case.task, case.with_mode) = (task, with_mode);
             assert_eq!(case.record()[0], number);
         }
+    }
+    case.in_bits = Some(0x1f1e_1d1c_1b1a_1918);
+    let count: Vec<u8> = (0x18..0x20).collect();
+    for (task, number) in [
+        (Task::AddBits, 8),
+        (Task::Read, 9),
+        (Task::IsSession, 10),
+        (Task::Add, 11),
+    ] {
+        case.task = task;
+        assert_eq!(case.record(), [&[number], &record[1..], &count].concat());
+        assert_eq!(case.record().len(), RECORD_IN_BITS);
     }
 }
 
@@ -130,6 +152,7 @@ fn lines_with_the_mode_have_their_fields() {
     let case = |task, length| Case {
         task,
         with_mode: true,
+        in_bits: None,
         length,
         session: session.clone(),
         room: [0xee; ROOM],
@@ -159,6 +182,7 @@ fn lines_have_their_fields() {
     let case = |task, length| Case {
         task,
         with_mode: false,
+        in_bits: None,
         length,
         session: session.clone(),
         room: [0xee; ROOM],
@@ -179,7 +203,7 @@ fn lines_have_their_fields() {
 
 #[test]
 fn refusals_are_those_of_the_table() {
-    for case in cases() {
+    for case in in_bytes() {
         let number = refusals(&case).first().copied().unwrap_or(0);
         assert_eq!(case.answer().number, number);
         if case.task == Task::IsSession {
@@ -212,7 +236,7 @@ fn refusals_are_those_of_the_table() {
 /// Four of six are no session, for the chaining value or the waiting bytes.
 #[test]
 fn sessions_of_the_other_mode_are_asked_about() {
-    let mut cases = cases();
+    let mut cases = in_bytes();
     let met: Vec<Vec<&str>> = cases
         .split_off(cases.len() - 18)
         .chunks(3)
@@ -440,8 +464,9 @@ fn a_case_follows_on_the_session_before_it() {
 
 #[test]
 fn the_files_hold_every_case() {
-    let count = cases().len();
+    let (all, bytes) = (cases().len(), in_bytes().len());
     let files = files();
-    assert_eq!(files[0].bytes.len(), count * RECORD);
-    assert_eq!(files[1].lines(), count);
+    let size = bytes * RECORD + (all - bytes) * RECORD_IN_BITS;
+    assert_eq!(files[0].bytes.len(), size);
+    assert_eq!(files[1].lines(), all);
 }

@@ -1,15 +1,17 @@
 //! Cases of the program `tag_cases`: tags of whole messages under a key, and tag
 //! sessions, from an opening or not and tag sessions or not, opened, added to,
-//! read, asked about and checked.
+//! read, asked about and checked, in bytes and in bits.
 
 mod checks;
 mod forged;
+mod in_bits;
 mod no_tag_sessions;
 mod openings;
 mod record;
 mod refused;
 #[cfg(test)]
 mod tests;
+mod units;
 mod whole;
 mod with_mode;
 
@@ -55,6 +57,7 @@ fn cases() -> Vec<Case> {
     cases.extend(refused::cases(&mut generator));
     cases.extend(whole::every_piece(&mut generator));
     cases.extend(with_mode::cases(&mut Generator::new(10)));
+    cases.extend(in_bits::cases(&mut Generator::new(14)));
     cases
 }
 

@@ -3,6 +3,7 @@
 
 use super::forged::forged;
 use super::record::Case;
+use super::units::in_bits;
 use crate::session_cases::forged::{Lengths, FAMILIES};
 use plain::tag_session::TagSession;
 use seeded::Generator;
@@ -42,8 +43,13 @@ fn of_one_session(generator: &mut Generator, lengths: &Lengths) -> Vec<Case> {
         .collect()
 }
 
-/// The right tag.
+/// The right tag, of a record that counts bytes.
 pub fn tag(session: &TagSession) -> Vec<u8> {
+    tag_in_bits(&in_bits(session))
+}
+
+/// The same of a record that counts bits.
+pub fn tag_in_bits(session: &TagSession) -> Vec<u8> {
     let mut tag = vec![0; session.inner.bits as usize / 8];
     assert_eq!(session.read(&mut tag), 0);
     tag

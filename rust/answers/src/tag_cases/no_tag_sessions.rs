@@ -3,6 +3,7 @@
 
 use super::forged::{changed, forged, with_outer, Change};
 use super::record::{Case, Task};
+use super::units::in_bits;
 use crate::session_cases::forged::forged as digest_session;
 use plain::mode::Mode::DoublePipe;
 use plain::refusal::MESSAGE_LIMIT;
@@ -46,9 +47,14 @@ fn case(generator: &mut Generator, session: TagSession, turn: usize) -> Case {
     }
 }
 
-/// What a reading would give that asks nothing of the record but that its two
-/// sessions are some; and else as many zeros as the longest tag has bytes.
+/// What a reading would give that asks nothing of the record, which counts bytes, but
+/// that its two sessions are some; and else as many zeros as the longest tag has bytes.
 pub fn would_be_tag(session: &TagSession) -> Vec<u8> {
+    would_be_tag_in_bits(&in_bits(session))
+}
+
+/// The same of a record that counts bits.
+pub fn would_be_tag_in_bits(session: &TagSession) -> Vec<u8> {
     let mut room = [0; 64];
     let mut outer = session.outer.clone();
     let size = |session: &Session| (session.bits / 8).min(64) as usize;

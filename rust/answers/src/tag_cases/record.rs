@@ -1,6 +1,7 @@
 //! One case of `tag_cases`: its record, a header of 40 bytes and for some tasks a
 //! tag session and a room behind it, and the line it has to give.
 
+use super::units::{in_bits, in_bytes};
 use crate::patterned::patterned;
 use crate::session_cases::record::{bytes, fields};
 use plain::tag_session::{TagSession, BLANK};
@@ -40,6 +41,8 @@ pub struct Case {
     /// Whether the line tells the mode and all of the waiting room of each session
     /// that was handed over.
     pub with_mode: bool,
+    /// Whether the two sessions that are handed over count bits, and else bytes.
+    pub in_bits: bool,
     /// Bytes of the piece, the output room or the tag that are handed over.
     pub length: u8,
     /// The digest length.
@@ -64,6 +67,7 @@ pub struct Case {
 /// A record that may be a tag session, and the room beside it.
 #[derive(Clone)]
 pub struct On {
+    /// It counts as the case says.
     pub session: TagSession,
     pub room: [u8; ROOM],
 }
@@ -115,6 +119,7 @@ impl Case {
         Case {
             task: Task::Whole,
             with_mode: false,
+            in_bits: false,
             length: generator.below(256) as u8,
             bits: 128 + 8 * generator.below(49),
             key_length: generator.below(u64::from(MOST) + 1) as u16,
@@ -130,16 +135,20 @@ impl Case {
 
     /// The number of the task in the record.
     fn number(&self) -> u8 {
-        match (self.task, self.with_mode) {
-            (Task::Whole, _) => 1,
-            (Task::Open, _) => 2,
-            (Task::Add, false) => 3,
-            (Task::Read, false) => 4,
-            (Task::IsSession, _) => 5,
-            (Task::Check, false) => 6,
-            (Task::Add, true) => 7,
-            (Task::Read, true) => 8,
-            (Task::Check, true) => 9,
+        match (self.task, self.with_mode, self.in_bits) {
+            (Task::Whole, _, _) => 1,
+            (Task::Open, _, _) => 2,
+            (Task::Add, false, _) => 3,
+            (Task::Read, false, _) => 4,
+            (Task::IsSession, _, false) => 5,
+            (Task::Check, false, _) => 6,
+            (Task::Add, true, false) => 7,
+            (Task::Read, true, false) => 8,
+            (Task::Check, true, false) => 9,
+            (Task::Add, true, true) => 10,
+            (Task::Read, true, true) => 11,
+            (Task::IsSession, _, true) => 12,
+            (Task::Check, true, true) => 13,
         }
     }
 
@@ -205,14 +214,15 @@ impl Case {
     /// whether it is a tag session is answered by [`line`](Case::line) alone.
     pub fn answer(&self) -> Answer {
         let length = usize::from(self.length);
-        let (session, room) = match &self.on {
+        let (came, room) = match &self.on {
             Some(on) => (on.session.clone(), on.room),
             None => (BLANK, [0; ROOM]),
         };
+        let counted = self.counted(&came);
         let mut answer = Answer {
             number: 0,
             yes: false,
-            session,
+            session: counted.clone(),
             room,
         };
         let lent = &mut answer.room[..length];
@@ -226,7 +236,20 @@ impl Case {
             Task::Read => answer.number = answer.session.read(lent),
             Task::Check => (answer.number, answer.yes) = answer.session.check(lent),
         }
+        answer.session = match self.in_bits {
+            _ if answer.session == counted => came,
+            true => answer.session,
+            false => in_bytes(&answer.session),
+        };
         answer
+    }
+
+    /// A record of this case, in bits.
+    fn counted(&self, session: &TagSession) -> TagSession {
+        match self.in_bits {
+            true => session.clone(),
+            false => in_bits(session),
+        }
     }
 
     /// The line that the program has to print for the record.
@@ -241,7 +264,10 @@ impl Case {
                 let lent = &answer.room[..usize::from(self.length)];
                 format!("{number} {session} {}\n", hex::encode(lent))
             }
-            Task::IsSession => format!("{}\n", yes_or_no(answer.session.is_session())),
+            Task::IsSession => {
+                let yes = self.counted(&answer.session).is_session();
+                format!("{}\n", yes_or_no(yes))
+            }
             Task::Check => format!("{number} {} {session}\n", yes_or_no(answer.yes)),
         }
     }

@@ -1,3 +1,4 @@
+mod in_bits;
 mod no_tag_sessions;
 mod on_sessions;
 mod whole;
@@ -39,6 +40,13 @@ fn block_of(session: &Session) -> u64 {
     }
 }
 
+/// The cases on records that count bytes.
+fn in_bytes() -> Vec<Case> {
+    let mut cases = cases();
+    cases.retain(|case| !case.in_bits);
+    cases
+}
+
 /// The cases whose lines do not tell the mode.
 fn without_mode() -> Vec<Case> {
     let mut cases = cases();
@@ -51,7 +59,7 @@ fn holding<T>(conditions: impl IntoIterator<Item = (T, bool)>) -> Vec<T> {
     holding.map(|(what, _)| what).collect()
 }
 
-/// Why a record is no digest session, by the words of the rule.
+/// Why a record that counts bytes is no digest session, by the words of the rule.
 fn digest_reasons(session: &Session) -> Vec<&'static str> {
     if !admitted(session.bits) {
         return vec!["bits"];
@@ -67,7 +75,7 @@ fn digest_reasons(session: &Session) -> Vec<&'static str> {
     ])
 }
 
-/// Why a record is no tag session, by the words of the rule.
+/// Why a record that counts bytes is no tag session, by the words of the rule.
 fn reasons(session: &TagSession) -> Vec<String> {
     let TagSession { inner, outer } = session;
     let mut reasons = Vec::new();
@@ -140,6 +148,7 @@ fn records_have_their_layout() {
     let mut case = Case {
         task: Task::Check,
         with_mode: false,
+        in_bits: false,
         length: 7,
         bits: 0x0908_0706_0504_0302,
         key_length: 0x0b0a,
@@ -186,6 +195,16 @@ fn records_have_their_layout() {
             (case.task, case.with_mode) = (task, with_mode);
             assert_eq!(case.record()[0], number);
         }
+    }
+    case.in_bits = true;
+    for (task, number) in [
+        (Task::Add, 10),
+        (Task::Read, 11),
+        (Task::IsSession, 12),
+        (Task::Check, 13),
+    ] {
+        case.task = task;
+        assert_eq!(case.record(), [&[number], &record[1..]].concat());
     }
 }
 
@@ -301,6 +320,6 @@ fn the_files_hold_every_case() {
     let files = files();
     let bytes = HEADER * (cases.len() - on_sessions) + RECORD * on_sessions;
     assert_eq!(files[0].bytes.len(), bytes);
-    assert!(bytes < 420_000);
+    assert!(bytes < 660_000);
     assert_eq!(files[1].lines(), cases.len());
 }

@@ -1,5 +1,6 @@
 use super::*;
 use crate::tag_cases::no_tag_sessions::{cases, records, would_be_tag};
+use crate::tag_cases::units::in_bits;
 use std::collections::HashSet;
 
 const TASKS: [Task; 4] = [Task::Add, Task::Read, Task::IsSession, Task::Check];
@@ -86,7 +87,7 @@ fn outer_numbers_of_bytes_are_met_on_both_sides_of_a_block() {
 fn checks_are_given_what_would_be_the_tag() {
     let mut given = 0;
     for case in cases(&mut Generator::new(6)) {
-        let TagSession { inner, outer } = session(&case);
+        let TagSession { inner, outer } = in_bits(session(&case));
         let both = inner.is_session() && outer.is_session();
         if case.task == Task::Check && both {
             let mut joined = outer.clone();

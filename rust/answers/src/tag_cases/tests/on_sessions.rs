@@ -19,7 +19,7 @@ fn done(task: Task, b: u64) -> Vec<Case> {
 #[test]
 fn refusals_are_those_of_the_table() {
     let mut counts = [[0; 6]; 2];
-    for case in cases() {
+    for case in in_bytes() {
         let number = refusals(&case).first().copied().unwrap_or(0);
         match case.task {
             Task::Whole => {}

@@ -1,4 +1,5 @@
 use super::*;
+use crate::tag_cases::checks::tag_in_bits;
 use crate::tag_cases::whole::{done, every_piece, keys, refused, CUTS};
 use std::collections::HashSet;
 
@@ -119,9 +120,9 @@ fn pieces_with_a_reading_and_a_check_behind_each_give_the_answer() {
         assert_eq!(number, 0);
         for piece in case.message().chunks(case.piece.into()) {
             assert_eq!(session.add(piece), 0);
-            assert_eq!(session.check(&tag(&session)), (0, true));
+            assert_eq!(session.check(&tag_in_bits(&session)), (0, true));
         }
-        assert_eq!(tag(&session), case.tag().expect("a tag"));
+        assert_eq!(tag_in_bits(&session), case.tag().expect("a tag"));
     }
 }
 

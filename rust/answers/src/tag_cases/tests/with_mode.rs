@@ -1,5 +1,6 @@
 use super::*;
 use crate::tag_cases::no_tag_sessions::would_be_tag;
+use crate::tag_cases::units::in_bits;
 use crate::tag_cases::with_mode::{but_for_the_mode, cases, records};
 
 fn on(case: &Case) -> &On {
@@ -34,7 +35,8 @@ fn each_record_is_no_tag_session_for_its_reason() {
 fn the_mode_alone_is_wrong() {
     for bits in [256, 512] {
         for modes in [[SinglePipe, DoublePipe], [SinglePipe, SinglePipe]] {
-            let mut session = but_for_the_mode(&mut Generator::new(10), bits, modes);
+            let session = but_for_the_mode(&mut Generator::new(10), bits, modes);
+            let mut session = in_bits(&session);
             assert!(session.inner.is_session() && session.outer.is_session());
             assert!(!session.is_session());
             session.inner.mode = DoublePipe;

@@ -6,13 +6,14 @@ mod long;
 
 use crate::file::File;
 use plain::mode::Mode::DoublePipe;
-use plain::{digest, hex};
+use plain::{digest, hex, padding};
 use seeded::Generator;
 
 const HEADER: &str = "\
 # ECHO 2.0, double-pipe: digests under the all-zero salt.
 #
-# Len counts the bits of the message, and Msg = 00 stands for no byte where Len = 0. The digest is as long as MD.
+# Len counts the bits of the message, and Msg = 00 stands for no byte where Len = 0. A message that ends within a byte has its bits at the
+# front of that byte, the most significant one first, and zeros behind them. The digest is as long as MD.
 #
 # Each case says where it comes from. Those marked published are in the known-answer files of the ECHO submission. All others are
 # computed, and two implementations that share no code give them. `cargo run --release -p answers -- ..` in rust/ writes this file.
@@ -54,11 +55,26 @@ const LENGTHS: [(u64, &[usize]); 8] = [
     (504, &[3]),
 ];
 
+/// Bits of messages that end within a byte: with every size of a part of one at the
+/// front, and as the last that leave room for their padding in a block; and on both
+/// sides of where the padding needs one block more and of a block's end.
+fn parts(bits: u64) -> Vec<u64> {
+    let msize = padding::msize(DoublePipe, bits);
+    let last = msize - 145;
+    let edges = [last + 2, msize - 1, msize + 1, msize + 4];
+    let second = [msize + last, msize + last + 2];
+    (1..8)
+        .chain(last - 6..=last)
+        .chain(edges)
+        .chain(second)
+        .collect()
+}
+
 pub fn files() -> Vec<File> {
     vec![
         File {
             path: "rust/known_answers/ECHO.txt",
-            bytes: (HEADER.to_string() + &published() + &computed()).into(),
+            bytes: (HEADER.to_string() + &published() + &computed() + &in_parts()).into(),
         },
         File {
             path: "rust/known_answers/ECHO_long.txt",
@@ -74,7 +90,7 @@ pub fn files() -> Vec<File> {
 fn published() -> String {
     PUBLISHED
         .iter()
-        .map(|digest| case("published", b"", digest))
+        .map(|digest| case("published", b"", 0, digest))
         .collect()
 }
 
@@ -90,18 +106,35 @@ fn computed() -> String {
 }
 
 fn computed_case(bits: u64, message: &[u8]) -> String {
-    let digest = digest::digest(DoublePipe, bits, &[0; 16], message);
-    case(COMPUTED, message, &upper(&digest))
+    computed_in_bits(bits, message, 8 * message.len() as u64)
 }
 
-/// A case, with its mark in front.
-fn case(mark: &str, message: &[u8], digest: &str) -> String {
-    let bits = 8 * message.len();
+fn computed_in_bits(bits: u64, message: &[u8], length: u64) -> String {
+    let digest = digest::digest_bits(DoublePipe, bits, &[0; 16], message, length);
+    case(COMPUTED, message, length, &upper(&digest))
+}
+
+/// Messages that end within a byte.
+fn in_parts() -> String {
+    let mut generator = Generator::new(15);
+    let mut text = String::new();
+    for bits in FOUR {
+        for length in parts(bits) {
+            let mut message = generator.vector(length.div_ceil(8) as usize);
+            *message.last_mut().expect("a byte") &= !(0xff >> (length % 8));
+            text += &computed_in_bits(bits, &message, length);
+        }
+    }
+    text
+}
+
+/// A case of so many bits, with its mark in front.
+fn case(mark: &str, message: &[u8], length: u64, digest: &str) -> String {
     let message = match message {
         [] => "00".into(),
         message => upper(message),
     };
-    format!("\n# {mark}\nLen = {bits}\nMsg = {message}\nMD = {digest}\n")
+    format!("\n# {mark}\nLen = {length}\nMsg = {message}\nMD = {digest}\n")
 }
 
 /// In upper case, as the published files have it.
@@ -125,9 +158,11 @@ mod tests {
     #[test]
     fn a_case_as_it_stands_in_the_file() {
         let text = "\n# mark\nLen = 16\nMsg = 0AFF\nMD = 1B\n";
-        assert_eq!(case("mark", &[0x0a, 0xff], "1B"), text);
+        assert_eq!(case("mark", &[0x0a, 0xff], 16, "1B"), text);
+        let text = "\n# mark\nLen = 13\nMsg = 0AF8\nMD = 1B\n";
+        assert_eq!(case("mark", &[0x0a, 0xf8], 13, "1B"), text);
         let text = "\n# mark\nLen = 0\nMsg = 00\nMD = 1B\n";
-        assert_eq!(case("mark", b"", "1B"), text);
+        assert_eq!(case("mark", b"", 0, "1B"), text);
     }
 
     #[test]
@@ -136,6 +171,20 @@ mod tests {
         let count = |line: &str| text.lines().filter(|other| *other == line).count();
         let cases: usize = LENGTHS.iter().map(|(_, lengths)| lengths.len()).sum();
         assert_eq!(count("# published"), PUBLISHED.len());
-        assert_eq!(count(&format!("# {COMPUTED}")), 1 + cases);
+        let parts: usize = FOUR.iter().map(|bits| parts(*bits).len()).sum();
+        assert_eq!(count(&format!("# {COMPUTED}")), 1 + cases + parts);
+    }
+
+    /// None is of whole bytes, and each size of a part is there in the first byte and in the
+    /// last that fits a block.
+    #[test]
+    fn every_part_of_a_byte_is_there() {
+        for (bits, last) in [(224, 1391), (256, 1391), (384, 879), (512, 879)] {
+            let parts = parts(bits);
+            assert!(parts.iter().all(|length| length % 8 != 0));
+            assert_eq!(parts[..7], [1, 2, 3, 4, 5, 6, 7]);
+            assert_eq!(parts[13], last);
+            assert_eq!(parts.len(), 20);
+        }
     }
 }

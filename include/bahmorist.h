@@ -1,5 +1,8 @@
 /* ECHO 2.0 digests, its round mixing forward and backward, fingerprints of steering tables, and tags of messages under a key.
  *
+ * Messages are bytes, but for bahmorist_digest_bits, which takes the length in bits: a message may end within a byte. The most significant bit of
+ * a byte comes first, and bits of the last byte that are not used are zero.
+ *
  * Digests and compression come in two modes (enum bahmorist_mode). ECHO itself is double-pipe: its chaining value is at least twice as long as
  * the digest. Single-pipe, section 5 of the paper, halves the chaining value and takes longer blocks instead, for less state and less time.
  * Functions that take no mode are double-pipe.
@@ -31,8 +34,8 @@
 #include <stddef.h>
 #include <stdint.h>
 
-#define BAHMORIST_VERSION "0.6.0"
-#define BAHMORIST_VERSION_NUMBER 600 /* 10,000 times the first part, 100 times the second and the third, added up */
+#define BAHMORIST_VERSION "0.7.0"
+#define BAHMORIST_VERSION_NUMBER 700 /* 10,000 times the first part, 100 times the second and the third, added up */
 
 #define BAHMORIST_SALT_BYTES 16
 #define BAHMORIST_SQUARE_BYTES 256
@@ -40,21 +43,24 @@
 #define BAHMORIST_MOST_DIGEST_BYTES 64
 #define BAHMORIST_MOST_TABLE_BYTES 4096
 
-/* Why a call was refused. No function here takes a session, so that 3, which is for those that do, is left out. 11 is unused and stays so. */
+/* Why a call was refused. No function here takes a session, so that 3 and 16, which are for those that do, are left out. 11 is unused and stays
+ * so, and 12 to 15 are not in use. */
 enum bahmorist_refusal {
     BAHMORIST_DONE = 0,
     BAHMORIST_REFUSED_DIGEST_LENGTH = 1, /* the digest length is not a multiple of 8 from 128 to 512 */
     BAHMORIST_REFUSED_SALT = 2,          /* the salt is not 16 bytes */
-    BAHMORIST_REFUSED_MESSAGE = 4,       /* the message is over 2^61 - 21 bytes; for a tag, the key is, or one block and the message are */
+    BAHMORIST_REFUSED_MESSAGE = 4,       /* the message is over 2^64 - 161 bits, which is over 2^61 - 21 whole bytes; for a tag, the key is, or one
+                                            block and the message are */
     BAHMORIST_REFUSED_ROOM = 5,          /* the output room is under bits / 8 bytes, or under 32 for a fingerprint */
     BAHMORIST_REFUSED_SHAPE = 6,         /* the mode is neither 0 nor 1; chaining and block sizes are not the mode's: 64 and 192 or 128 and 128
                                             in double-pipe, 32 and 224 or 64 and 192 in single-pipe; the square is not 256 bytes; the round
-                                            count is not 8 or 10 */
+                                            count is not 8 or 10; the message is not as many bytes as its bits over 8, rounded up */
     BAHMORIST_REFUSED_COUNTER = 7,       /* the starting counter is above 2^64 - 161; from functions alone that take it in 64 bits, never from those
                                             that end in _wide */
     BAHMORIST_REFUSED_TABLE = 8,         /* the table is over 4,096 bytes */
     BAHMORIST_REFUSED_KIND = 9,          /* unknown kind byte in the table */
-    BAHMORIST_REFUSED_CUT_SHORT = 10     /* record of the table cut short */
+    BAHMORIST_REFUSED_CUT_SHORT = 10,    /* record of the table cut short */
+    BAHMORIST_REFUSED_SET_BITS = 17      /* a bit of the message's last byte is set behind the last one that is used */
 };
 
 /* How long chaining value and block are, in bytes, for digests up to 256 bits and above: with 8 rounds and with 10. */
@@ -99,6 +105,12 @@ BAHMORIST_LOOK_AT uint8_t bahmorist_digest(uint64_t bits, const uint8_t *salt, s
 /* The same in a mode of enum bahmorist_mode, of which 0 gives what bahmorist_digest gives. Refuses by 1, 2, 4, 5 or 6. */
 BAHMORIST_LOOK_AT uint8_t bahmorist_digest_in(uint8_t mode, uint64_t bits, const uint8_t *salt, size_t salt_len, const uint8_t *message,
                                               size_t message_len, uint8_t *out, size_t out_len);
+
+/* The same of a message of message_bits bits, which end within the last of its message_len bytes or with it: message_len is message_bits / 8,
+ * rounded up, and bits behind the last one are zero. Where message_bits is 8 * message_len, it gives what bahmorist_digest_in gives. Refuses by 1,
+ * 2, 4, 5, 6 or 17. */
+BAHMORIST_LOOK_AT uint8_t bahmorist_digest_bits(uint8_t mode, uint64_t bits, const uint8_t *salt, size_t salt_len, const uint8_t *message,
+                                                size_t message_len, uint64_t message_bits, uint8_t *out, size_t out_len);
 
 /* Rewrites the square by 8 or 10 of ECHO's rounds, whose inner counter starts at counter. Refuses by 2, 6 or 7. */
 BAHMORIST_LOOK_AT uint8_t bahmorist_rounds(uint8_t *square, size_t square_len, uint64_t rounds, uint64_t counter, const uint8_t *salt,

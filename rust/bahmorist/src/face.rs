@@ -40,6 +40,18 @@ extern "C" {
         out_len: usize,
     ) -> u8;
 
+    pub fn bahmorist_digest_bits(
+        mode: u8,
+        bits: u64,
+        salt: *const u8,
+        salt_len: usize,
+        message: *const u8,
+        message_len: usize,
+        message_bits: u64,
+        out: *mut u8,
+        out_len: usize,
+    ) -> u8;
+
     pub fn bahmorist_hmac(
         bits: u64,
         salt: *const u8,

@@ -1,6 +1,7 @@
-//! ECHO 2.0 digests in both modes, tags of messages under a key, the round mixing
-//! below them, and fingerprints of steering tables, by the proved library: a safe
-//! face of its C functions, which `include/bahmorist.h` describes.
+//! ECHO 2.0 digests in both modes, of bytes and of bits, tags of messages under a
+//! key, the round mixing below them, and fingerprints of steering tables, by the
+//! proved library: a safe face of its C functions, which `include/bahmorist.h`
+//! describes.
 //!
 //! Every number and every length is checked by the library itself. A call that
 //! is refused writes nothing. Nothing is allocated and nothing is kept between
@@ -112,6 +113,68 @@ pub fn digest_in(
             salt.len(),
             message.as_ptr(),
             message.len(),
+            out.as_mut_ptr(),
+            out.len(),
+        )
+    })
+}
+
+/// Puts the digest of a message of `message_bits` bits at the front of `out`, like
+/// [`digest_in`]. The most significant bit of a byte comes first, the message is as many
+/// bytes as its bits over 8, rounded up, and bits behind the last one are zero. Refuses
+/// by 1, 2, 4, 5, 6 or 17.
+///
+/// A capture that ends within a byte is another message than its bytes:
+///
+/// ```
+/// use bahmorist::{digest_bits, digest_in, Mode, Refusal};
+///
+/// let (capture, salt) = ([0xa5, 0b1101_0000], [0; 16]);
+/// let (mut bits, mut bytes, mut same) = ([0; 32], [0; 32], [0; 32]);
+/// digest_bits(Mode::DoublePipe, 256, &salt, &capture, 12, &mut bits)?;
+/// digest_in(Mode::DoublePipe, 256, &salt, &capture, &mut bytes)?;
+/// assert_ne!(bits, bytes);
+///
+/// // With all of its bits it is the same.
+/// digest_bits(Mode::DoublePipe, 256, &salt, &capture, 16, &mut same)?;
+/// assert_eq!(same, bytes);
+/// # Ok::<(), Refusal>(())
+/// ```
+///
+/// What is refused, and that the room stays as it is:
+///
+/// ```
+/// use bahmorist::{digest_bits, Mode, Refusal};
+///
+/// let mut out = [7; 32];
+/// let mut refused = |message: &[u8], message_bits| {
+///     digest_bits(Mode::SinglePipe, 256, &[0; 16], message, message_bits, &mut out)
+/// };
+/// // The fourth bit is set, and three are used.
+/// assert_eq!(refused(&[0b1101_0000], 3), Err(Refusal::SetBits));
+/// assert_eq!(refused(&[0b1101_0000], 9), Err(Refusal::Shape));
+/// assert_eq!(refused(&[], 1), Err(Refusal::Shape));
+/// assert_eq!(refused(&[], u64::MAX), Err(Refusal::Message));
+/// assert_eq!(out, [7; 32]);
+/// ```
+pub fn digest_bits(
+    mode: Mode,
+    bits: u64,
+    salt: &[u8],
+    message: &[u8],
+    message_bits: u64,
+    out: &mut [u8],
+) -> Result<(), Refusal> {
+    // SAFETY: each pointer comes with its slice's length; see `face`.
+    answer(unsafe {
+        face::bahmorist_digest_bits(
+            mode.number(),
+            bits,
+            salt.as_ptr(),
+            salt.len(),
+            message.as_ptr(),
+            message.len(),
+            message_bits,
             out.as_mut_ptr(),
             out.len(),
         )
@@ -591,10 +654,10 @@ fn halves(counter: u128) -> (u64, u64) {
     (counter as u64, (counter >> 64) as u64)
 }
 
-/// What a number says: 0 is done, and the library gives none above 10.
+/// What a number says: 0 is done, and the library gives none that is no refusal.
 fn answer(number: u8) -> Result<(), Refusal> {
     match number {
         0 => Ok(()),
-        number => Err(Refusal::from_number(number).expect("a number from 0 to 10")),
+        number => Err(Refusal::from_number(number).expect("a number of a refusal")),
     }
 }

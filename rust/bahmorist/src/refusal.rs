@@ -23,15 +23,16 @@ pub enum Refusal {
     /// The record is no session. Nothing here takes a session, so this is never
     /// given here.
     Session = 3,
-    /// The message is over 2^61 - 21 bytes, or a key is, or the key's block, of
-    /// 192 or 128 bytes, and the message together.
+    /// The message is over 2^64 - 161 bits, which is over 2^61 - 21 whole bytes, or a
+    /// key is, or the key's block, of 192 or 128 bytes, and the message together.
     Message = 4,
     /// The output room is smaller than what goes there.
     Room = 5,
     /// Chaining and block sizes are not those of the mode, which are 64 and 192 or
     /// 128 and 128 in double-pipe, and 32 and 224 or 64 and 192 in single-pipe; the
-    /// square is not 256 bytes; or the round count is not 8 or 10. The C functions
-    /// give it for a mode other than 0 and 1 too.
+    /// square is not 256 bytes; the round count is not 8 or 10; or the message is not
+    /// as many bytes as its bits over 8, rounded up. The C functions give it for a mode
+    /// other than 0 and 1 too.
     Shape = 6,
     /// The starting counter is above 2^64 - 161. The functions that take it in 128
     /// bits never give this.
@@ -42,10 +43,12 @@ pub enum Refusal {
     Kind = 9,
     /// A record cut short by the table's end.
     CutShort = 10,
+    /// A bit of the message's last byte is set behind the last one that is used.
+    SetBits = 17,
 }
 
 /// All of them, in the order of their numbers.
-const ALL: [Refusal; 10] = [
+const ALL: [Refusal; 11] = [
     Refusal::DigestLength,
     Refusal::Salt,
     Refusal::Session,
@@ -56,16 +59,18 @@ const ALL: [Refusal; 10] = [
     Refusal::Table,
     Refusal::Kind,
     Refusal::CutShort,
+    Refusal::SetBits,
 ];
 
 impl Refusal {
-    /// The number, from 1 to 10.
+    /// The number, from 1 to 10, or 17.
     pub fn number(self) -> u8 {
         self as u8
     }
 
     /// The refusal of a number; none for 0, which is no refusal, for 11, which is
-    /// unused and stays so, and above.
+    /// unused and stays so, for 12 to 15, which are not in use, for 16, which is for
+    /// sessions alone, and above 17.
     pub fn from_number(number: u8) -> Option<Refusal> {
         ALL.into_iter().find(|refusal| refusal.number() == number)
     }
@@ -78,16 +83,17 @@ impl Display for Refusal {
             Refusal::Salt => "the salt is not 16 bytes",
             Refusal::Session => "the record is no session",
             Refusal::Message => {
-                "the message, or a key, or key block and message together, is over 2^61 - 21 bytes"
+                "the message, or a key, or key block and message together, is over 2^64 - 161 bits"
             }
             Refusal::Room => "the output room is too small",
             Refusal::Shape => {
-                "no mode, sizes that are not the mode's, no square, or a round count other than 8 and 10"
+                "no mode, sizes that are not the mode's, no square, a round count other than 8 and 10, or bytes that are not those of the bits"
             }
             Refusal::Counter => "the starting counter is above 2^64 - 161",
             Refusal::Table => "the table is over 4096 bytes",
             Refusal::Kind => "unknown kind byte",
             Refusal::CutShort => "record cut short",
+            Refusal::SetBits => "a bit is set behind the last one of the message",
         })
     }
 }
@@ -159,11 +165,11 @@ mod tests {
 
     #[test]
     fn numbers_go_there_and_back() {
-        for number in 1..=10 {
+        for number in (1..=10).chain([17]) {
             let refusal = Refusal::from_number(number).unwrap();
             assert_eq!(refusal.number(), number);
         }
-        for number in [0, 11, 12, 255] {
+        for number in (11..=16).chain([0, 18, 255]) {
             assert_eq!(Refusal::from_number(number), None);
         }
     }

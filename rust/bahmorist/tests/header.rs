@@ -49,7 +49,7 @@ fn each_function_has_its_parameters_in_the_order_of_the_header() {
         name
     });
     assert_eq!(in_c, in_rust);
-    assert_eq!(in_c.len(), 12);
+    assert_eq!(in_c.len(), 13);
 }
 
 #[test]
@@ -60,11 +60,15 @@ fn each_refusal_has_its_number_in_the_header() {
         let name = name.replace('_', "").to_lowercase();
         assert_eq!(format!("{refusal:?}").to_lowercase(), name);
     }
-    // All but the one that is for sessions, and 11, which is unused.
-    let left_out: Vec<u8> = (1..=11)
+    // All but those that are for sessions, 11, which is unused, and 12 to 15, which are
+    // not in use.
+    let left_out: Vec<u8> = (1..=17)
         .filter(|number| named.iter().all(|(_, named)| named != number))
         .collect();
-    assert_eq!(left_out, [Refusal::Session.number(), 11]);
+    assert_eq!(
+        left_out,
+        [Refusal::Session.number(), 11, 12, 13, 14, 15, 16]
+    );
 }
 
 #[test]

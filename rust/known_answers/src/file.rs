@@ -33,7 +33,8 @@ pub struct Case {
 
 #[derive(Debug, PartialEq, Eq)]
 pub enum Message {
-    /// So many bits, and the bytes that hold them; none where there are no bits.
+    /// So many bits, and the bytes that hold them, with zeros behind the last one; none
+    /// where there are no bits.
     Bits { bits: u64, bytes: Vec<u8> },
     /// A text, so many times.
     Repeated { times: usize, text: Vec<u8> },
@@ -109,13 +110,19 @@ fn bytes(bits: u64, text: &str) -> Option<Vec<u8>> {
     if bits == 0 {
         return (text == "00").then(Vec::new);
     }
-    hex::decode(text).filter(|bytes| bytes.len() as u64 == bits.div_ceil(8))
+    let holds = |bytes: &Vec<u8>| {
+        let unused = bytes.last().map_or(0, |last| last << (bits - 1) % 8 << 1);
+        bytes.len() as u64 == bits.div_ceil(8) && unused == 0
+    };
+    hex::decode(text).filter(holds)
 }
 
 fn message_form(bits: u64) -> String {
-    match bits {
-        0 => "00 for no byte".into(),
-        bits => format!("{} hex digits", 2 * u128::from(bits.div_ceil(8))),
+    let digits = 2 * u128::from(bits.div_ceil(8));
+    match (bits, bits % 8) {
+        (0, _) => "00 for no byte".into(),
+        (_, 0) => format!("{digits} hex digits"),
+        _ => format!("{digits} hex digits, with zeros behind {bits} bits"),
     }
 }
 

@@ -1,6 +1,6 @@
 //! `known_answers FILE...`: computes every case of known-answer files with the
 //! proved library, prints each that differs and the counts of each file, and
-//! exits with 1 if any differs, a file is malformed or nothing in it is compared.
+//! exits with 1 if any differs or a file is malformed, as one without a case is.
 
 #![forbid(unsafe_code)]
 

@@ -2,6 +2,8 @@
 
 use crate::file::{self, Answer, Case, Chain, Message, Part, SEED};
 use crate::hex;
+use bahmorist::Mode::DoublePipe;
+use bahmorist::Refusal;
 use std::fmt::Write;
 
 /// Digests between two that a chain is asked for.
@@ -12,7 +14,7 @@ pub struct Report {
     /// Lines, one for each case that differs, and then the counts; or what is
     /// malformed.
     pub text: String,
-    /// Whether nothing differs, nothing is malformed, and something was compared.
+    /// Whether nothing differs and nothing is malformed.
     pub agrees: bool,
 }
 
@@ -44,7 +46,6 @@ struct Tally<'a> {
     text: String,
     agree: usize,
     differ: usize,
-    skipped: usize,
 }
 
 impl Tally<'_> {
@@ -54,20 +55,21 @@ impl Tally<'_> {
             text: String::new(),
             agree: 0,
             differ: 0,
-            skipped: 0,
         }
     }
 
     fn case(&mut self, Case { message, answer }: &Case) {
-        let (what, message) = match message {
-            Message::Bits { bits, .. } if bits % 8 != 0 => {
-                self.skipped += 1;
-                return;
+        let size = answer.digest.len();
+        let (what, computed) = match message {
+            Message::Bits { bits, bytes } => {
+                (format!("Len = {bits}"), digest_bits(bytes, *bits, size))
             }
-            Message::Bits { bits, bytes } => (format!("Len = {bits}"), bytes.clone()),
-            Message::Repeated { times, text } => (format!("Repeat = {times}"), text.repeat(*times)),
+            Message::Repeated { times, text } => (
+                format!("Repeat = {times}"),
+                digest(&text.repeat(*times), size),
+            ),
         };
-        self.compare(&what, answer, &digest(&message, answer.digest.len()));
+        self.compare(&what, answer, &computed);
     }
 
     /// A step digests the message, of a seed's length, and the digest followed by
@@ -111,22 +113,36 @@ impl Tally<'_> {
             text,
             agree,
             differ,
-            skipped,
         } = self;
-        let counts = format!("{agree} agree, {differ} differ, {skipped} skipped (not whole bytes)");
         Report {
-            text: text + &format!("{name}: {counts}\n"),
-            agrees: differ == 0 && agree > 0,
+            text: text + &format!("{name}: {agree} agree, {differ} differ\n"),
+            agrees: differ == 0,
         }
     }
 }
 
 /// The library's digest of so many bytes, or why there is none.
 fn digest(message: &[u8], size: usize) -> Result<Vec<u8>, String> {
-    let mut digest = vec![0; size];
-    let bits = 8 * size as u64;
-    match bahmorist::digest(bits, &[0; 16], message, &mut digest) {
-        Ok(()) => Ok(digest),
+    into(size, |bits, out| {
+        bahmorist::digest(bits, &[0; 16], message, out)
+    })
+}
+
+/// The same of a message of so many bits.
+fn digest_bits(message: &[u8], length: u64, size: usize) -> Result<Vec<u8>, String> {
+    into(size, |bits, out| {
+        bahmorist::digest_bits(DoublePipe, bits, &[0; 16], message, length, out)
+    })
+}
+
+/// A digest by its length in bits, into as many bytes.
+fn into(
+    size: usize,
+    digest: impl Fn(u64, &mut [u8]) -> Result<(), Refusal>,
+) -> Result<Vec<u8>, String> {
+    let mut room = vec![0; size];
+    match digest(8 * size as u64, &mut room) {
+        Ok(()) => Ok(room),
         Err(refusal) => Err(refusal.to_string()),
     }
 }
@@ -153,7 +169,7 @@ mod tests {
     #[test]
     fn a_file_that_agrees() {
         let report = of("F", &empty_message(DIGEST).repeat(2));
-        let counts = "F: 2 agree, 0 differ, 0 skipped (not whole bytes)\n";
+        let counts = "F: 2 agree, 0 differ\n";
         assert_eq!((report.text.as_str(), report.agrees), (counts, true));
     }
 
@@ -164,7 +180,7 @@ mod tests {
         let (expected, computed) = (wrong.to_lowercase(), DIGEST.to_lowercase());
         let text = format!(
             "F: line 6: Len = 0: expected {expected}, computed {computed}\n\
-             F: 1 agree, 1 differ, 0 skipped (not whole bytes)\n"
+             F: 1 agree, 1 differ\n"
         );
         assert_eq!((report.text, report.agrees), (text, false));
     }
@@ -176,20 +192,26 @@ mod tests {
         assert!(!report.agrees);
     }
 
+    /// The digest is that of five bits, and not of eight.
     #[test]
-    fn bits_that_are_not_whole_bytes_are_skipped() {
-        let odd = format!("Len = 5\nMsg = 98\nMD = {DIGEST}\n");
-        let report = of("F", &(odd + &empty_message(DIGEST)));
-        let counts = "F: 1 agree, 0 differ, 1 skipped (not whole bytes)\n";
-        assert_eq!((report.text.as_str(), report.agrees), (counts, true));
+    fn bits_that_are_not_whole_bytes_are_computed() {
+        let mut digest = [0; 32];
+        bahmorist::digest_bits(DoublePipe, 256, &[0; 16], &[0x98], 5, &mut digest).unwrap();
+        let digest = hex::encode(&digest);
+        let five = format!("Len = 5\nMsg = 98\nMD = {digest}\n");
+        let report = of("F", &five);
+        assert_eq!(report.text, "F: 1 agree, 0 differ\n");
+        let eight = five.replace("Len = 5", "Len = 8");
+        let report = of("F", &(eight + &five));
+        assert!(!report.agrees);
+        let seen = format!("F: line 3: Len = 8: expected {digest}, computed ");
+        assert!(report.text.starts_with(&seen));
+        assert!(report.text.ends_with("F: 1 agree, 1 differ\n"));
     }
 
     #[test]
-    fn a_file_in_which_nothing_is_compared_does_not_agree() {
-        let odd = format!("Len = 5\nMsg = 98\nMD = {DIGEST}\n");
-        let report = of("F", &odd);
-        let counts = "F: 0 agree, 0 differ, 1 skipped (not whole bytes)\n";
-        assert_eq!((report.text.as_str(), report.agrees), (counts, false));
+    fn a_file_without_a_case_does_not_agree() {
+        assert!(!of("F", "# No case.\n").agrees);
     }
 
     #[test]
@@ -222,6 +244,9 @@ mod tests {
     fn a_malformed_file_does_not_agree() {
         let report = of("F", "Len = 8\nMsg =\n");
         let text = "F: line 2: expected 'Msg = ' and 2 hex digits\n";
+        assert_eq!((report.text.as_str(), report.agrees), (text, false));
+        let report = of("F", "Len = 5\nMsg = 9C\n");
+        let text = "F: line 2: expected 'Msg = ' and 2 hex digits, with zeros behind 5 bits\n";
         assert_eq!((report.text.as_str(), report.agrees), (text, false));
     }
 }

@@ -115,6 +115,24 @@ fn malformed_lines() {
         ("Msg = CC", "Msg = CCCC", 9, "'Msg = ' and 2 hex digits"),
         ("Len = 8", "Len = 16", 9, "'Msg = ' and 4 hex digits"),
         (
+            "Len = 8",
+            "Len = 9",
+            9,
+            "'Msg = ' and 4 hex digits, with zeros behind 9 bits",
+        ),
+        (
+            "Len = 8",
+            "Len = 5",
+            9,
+            "'Msg = ' and 2 hex digits, with zeros behind 5 bits",
+        ),
+        (
+            "Msg = 98",
+            "Msg = 9800",
+            12,
+            "'Msg = ' and 2 hex digits, with zeros behind 5 bits",
+        ),
+        (
             "MD = 0a0B",
             "MD = 0a0",
             10,
@@ -135,6 +153,17 @@ fn malformed_lines() {
     ] {
         let file = GOOD.replacen(good, bad, 1);
         assert_eq!(refused(&file), (line, expected.into()), "{bad}");
+    }
+}
+
+/// Each bit of a part of a byte, in use and not.
+#[test]
+fn set_bits_behind_the_last_one_are_malformed() {
+    for bits in 9..=16 {
+        for place in 0..8 {
+            let file = format!("Len = {bits}\nMsg = 33{:02x}\nMD = ff\n", 0x80 >> place);
+            assert_eq!(read(&file).is_ok(), 8 + place < bits, "{file}");
+        }
     }
 }
 

@@ -13,6 +13,12 @@ pub enum Routine {
     Digest { bits: u64 },
     /// The same in the mode of a number.
     DigestIn { mode: u8, bits: u64 },
+    /// The same of a message of so many bits.
+    DigestBits {
+        mode: u8,
+        bits: u64,
+        message_bits: u64,
+    },
     /// A tag at once.
     Hmac { bits: u64 },
     /// A check of a tag.
@@ -115,6 +121,7 @@ impl Case {
     fn names(&self) -> (&'static str, &'static str, &'static str) {
         match self.routine {
             Routine::Digest { .. } | Routine::DigestIn { .. } => ("digest", "message", "room"),
+            Routine::DigestBits { .. } => ("digest of bits", "message", "room"),
             Routine::Hmac { .. } => ("tag", "message", "room"),
             Routine::HmacCheck { .. } => ("check", "message", "tag"),
             Routine::Rounds { .. } => ("rounds", "", "square"),
@@ -135,6 +142,7 @@ impl Case {
             self.routine,
             Routine::Digest { .. }
                 | Routine::DigestIn { .. }
+                | Routine::DigestBits { .. }
                 | Routine::Hmac { .. }
                 | Routine::Fingerprint
         )
@@ -148,6 +156,11 @@ impl Display for Case {
         match self.routine {
             Routine::Digest { bits } => write!(to, "{bits} bits, ")?,
             Routine::DigestIn { mode, bits } => write!(to, "mode {mode}, {bits} bits, ")?,
+            Routine::DigestBits {
+                mode,
+                bits,
+                message_bits,
+            } => write!(to, "mode {mode}, {bits} bits of {message_bits}, ")?,
             Routine::Hmac { bits } | Routine::HmacCheck { bits } => {
                 write!(to, "{bits} bits, key {}, ", shown(&self.key))?
             }

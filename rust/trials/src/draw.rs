@@ -62,6 +62,14 @@ pub fn digests(bits: u64) -> [(Routine, usize); 3] {
     ]
 }
 
+/// Bytes of a block in a mode.
+pub fn block_in(mode: u8, bits: u64) -> usize {
+    match mode {
+        0 => block(bits),
+        _ => 128 + block(bits) / 2,
+    }
+}
+
 /// The ways to a compression, each with the words of its chaining value.
 pub fn compressions(counter: u64) -> [(Routine, usize); 6] {
     let without = Routine::Compress { counter };
@@ -122,6 +130,22 @@ pub fn digest(generator: &mut Generator, bits: u64, length: usize) -> Case {
         key: vec![],
         input: generator.vector(length),
         lent: generator.vector((bits / 8 + spare) as usize),
+    }
+}
+
+/// A digest of a message of so many bits, with zeros behind them, into such a room.
+pub fn digest_bits(generator: &mut Generator, mode: u8, bits: u64, message_bits: u64) -> Case {
+    let mut case = digest(generator, bits, message_bits.div_ceil(8) as usize);
+    if let Some(last) = case.input.last_mut() {
+        *last &= 0xff << (message_bits.wrapping_neg() % 8);
+    }
+    Case {
+        routine: Routine::DigestBits {
+            mode,
+            bits,
+            message_bits,
+        },
+        ..case
     }
 }
 

@@ -2,11 +2,15 @@
 //! each number with its condition, the lowest that applies, and between 9 and 10
 //! that of the record nearer the front.
 //!
-//! Two numbers never come up here. 3 is about sessions, which have no way in
-//! through the C face, and 4 would need a message or a key that no memory holds.
-//! The programs `session_cases` and `tag_cases` are run on both.
+//! Two numbers never come up here: 3 and 16 are about sessions, which have no way in
+//! through the C face. 4 comes up where a message has a bit count, which may be far
+//! above what is lent; anywhere else it would need a message or a key that no memory
+//! holds. The programs `session_cases` and `tag_cases` are run on all three.
 
 use crate::case::{Case, Routine};
+
+/// The most bits of a message: 2^64 - 161.
+pub const MOST_BITS: u64 = 0u64.wrapping_sub(161);
 
 /// The highest starting counter: 2^64 - 161.
 pub const HIGHEST_COUNTER: u64 = 0u64.wrapping_sub(161);
@@ -29,6 +33,22 @@ pub fn refusals(case: &Case) -> Vec<(u8, u64)> {
             let room = (lent as u64) < bits / 8;
             let mode = mode > 1;
             holding([(1, !admitted(bits)), bad_salt, (5, room), (6, mode)])
+        }
+        Routine::DigestBits {
+            mode,
+            bits,
+            message_bits,
+        } => {
+            let room = (lent as u64) < bits / 8;
+            let bytes = message_bits / 8 + u64::from(message_bits % 8 != 0);
+            holding([
+                (1, !admitted(bits)),
+                bad_salt,
+                (4, message_bits > MOST_BITS),
+                (5, room),
+                (6, mode > 1 || input as u64 != bytes),
+                (17, set_behind(&case.input, message_bits)),
+            ])
         }
         // A tag that is shorter than the right one is no room: it gets a no.
         Routine::HmacCheck { bits } => holding([(1, !admitted(bits)), bad_salt]),
@@ -63,6 +83,17 @@ pub fn refusals(case: &Case) -> Vec<(u8, u64)> {
 
 fn admitted(bits: u64) -> bool {
     (128..=512).contains(&bits) && bits.is_multiple_of(8)
+}
+
+/// Whether a bit of these bytes is set that is not among the first so many, the most
+/// significant one of a byte first.
+fn set_behind(bytes: &[u8], first: u64) -> bool {
+    (0u64..)
+        .zip(bytes)
+        .any(|(place, byte)| match first.saturating_sub(8 * place) {
+            used @ 0..=7 => byte << used != 0,
+            _ => false,
+        })
 }
 
 /// Whether chaining value and block have sizes of a mode.

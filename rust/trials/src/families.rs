@@ -1,5 +1,7 @@
 //! All families, in the order in which they are tried.
 
+pub mod bit_edges;
+pub mod bit_lengths;
 pub mod block_edges;
 pub mod both_paths;
 pub mod both_widths;
@@ -21,15 +23,19 @@ pub mod table_words;
 pub mod tables;
 pub mod tags;
 pub mod there_and_back;
+pub mod whole_bytes;
 pub mod wide_compressions;
 pub mod wide_rounds;
 
 use crate::family::Family;
 
-pub const ALL: [Family; 23] = [
+pub const ALL: [Family; 26] = [
     block_edges::FAMILY,
     every_length::FAMILY,
     random_messages::FAMILY,
+    bit_edges::FAMILY,
+    bit_lengths::FAMILY,
+    whole_bytes::FAMILY,
     tags::FAMILY,
     checks::FAMILY,
     rounds_forward::FAMILY,

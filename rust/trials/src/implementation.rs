@@ -1,4 +1,4 @@
-//! An implementation under trial: its twelve routines, as functions on slices.
+//! An implementation under trial: its thirteen routines, as functions on slices.
 
 use crate::case::Routine;
 use plain::checked;
@@ -10,6 +10,7 @@ pub struct Implementation {
     /// By digest length, salt, message and output room.
     pub digest: fn(u64, &[u8], &[u8], &mut [u8]) -> u8,
     pub digest_in: DigestIn,
+    pub digest_bits: DigestBits,
     pub hmac: Hmac,
     pub hmac_check: HmacCheck,
     /// By square, round count, starting counter and salt.
@@ -30,6 +31,9 @@ pub struct Implementation {
 
 /// By the number of the mode, and what a digest without one goes by.
 pub type DigestIn = fn(u8, u64, &[u8], &[u8], &mut [u8]) -> u8;
+
+/// By the number of the mode, digest length, salt, message, its bits and output room.
+pub type DigestBits = fn(u8, u64, &[u8], &[u8], u64, &mut [u8]) -> u8;
 
 /// By the number of the mode, and what a compression without one goes by.
 pub type CompressIn = fn(u8, &mut [u8], &[u8], u64, &[u8]) -> u8;
@@ -64,13 +68,24 @@ pub struct Answer {
     pub yes: u8,
 }
 
-/// The proved library. Its three routines in a mode take the numbers of a mode alone,
+/// The proved library. Its four routines in a mode take the numbers of a mode alone,
 /// since Rust's functions take an enum; the C functions are tried with all numbers.
 pub const LIBRARY: Implementation = Implementation {
     digest: |bits, salt, message, out| number(bahmorist::digest(bits, salt, message, out)),
     digest_in: |mode, bits, salt, message, out| {
         let mode = in_rust(mode);
         number(bahmorist::digest_in(mode, bits, salt, message, out))
+    },
+    digest_bits: |mode, bits, salt, message, message_bits, out| {
+        let mode = in_rust(mode);
+        number(bahmorist::digest_bits(
+            mode,
+            bits,
+            salt,
+            message,
+            message_bits,
+            out,
+        ))
     },
     hmac: |bits, salt, key, message, out| number(bahmorist::hmac(bits, salt, key, message, out)),
     hmac_check: |bits, salt, key, message, tag| {
@@ -110,6 +125,7 @@ pub const LIBRARY: Implementation = Implementation {
 pub const PLAIN: Implementation = Implementation {
     digest: checked::digest,
     digest_in: checked::digest_in,
+    digest_bits: checked::digest_bits,
     hmac: checked::hmac,
     hmac_check: |bits, salt, key, message, tag| {
         let (number, yes) = checked::hmac_check(bits, salt, key, message, tag);
@@ -151,6 +167,18 @@ impl Implementation {
             Routine::DigestIn { mode, bits } => {
                 alone((self.digest_in)(mode, bits, salt, input, lent))
             }
+            Routine::DigestBits {
+                mode,
+                bits,
+                message_bits,
+            } => alone((self.digest_bits)(
+                mode,
+                bits,
+                salt,
+                input,
+                message_bits,
+                lent,
+            )),
             Routine::Hmac { bits } => alone((self.hmac)(bits, salt, key, input, lent)),
             Routine::HmacCheck { bits } => {
                 let (number, yes) = (self.hmac_check)(bits, salt, key, input, lent);

@@ -55,6 +55,15 @@ fn third(case: &Case) -> Option<Outcome> {
             let digest = third::digest(SinglePipe, bits, salt, &case.input)?;
             third.lent[..digest.len()].copy_from_slice(&digest);
         }
+        Routine::DigestBits {
+            mode,
+            bits,
+            message_bits,
+        } => {
+            let mode = if mode == 0 { DoublePipe } else { SinglePipe };
+            let digest = third::digest_bits(mode, bits, salt, &case.input, message_bits)?;
+            third.lent[..digest.len()].copy_from_slice(&digest);
+        }
         Routine::Hmac { bits } => {
             let tag = third::hmac(bits, salt, &case.key, &case.input)?;
             third.lent[..tag.len()].copy_from_slice(&tag);
@@ -153,6 +162,33 @@ mod tests {
                 if let Some(third) = third(&case) {
                     assert_eq!(third, outcome);
                 }
+            }
+        }
+    }
+
+    /// A message that ends within a byte, in both modes, by `third` too where there is
+    /// one.
+    #[test]
+    fn the_outcome_of_a_digest_of_bits() {
+        let modes = [plain::mode::Mode::DoublePipe, plain::mode::Mode::SinglePipe];
+        for mode in modes {
+            let routine = Routine::DigestBits {
+                mode: mode.number(),
+                bits: 256,
+                message_bits: 1391,
+            };
+            let case = Case {
+                routine,
+                salt: vec![7; 16],
+                key: vec![],
+                input: vec![2; 174],
+                lent: vec![0xee; 34],
+            };
+            let outcome = outcome(&case).unwrap();
+            let digest = plain::digest::digest_bits(mode, 256, &[7; 16], &[2; 174], 1391);
+            assert_eq!(outcome.lent, [&digest[..], &[0xee; 2]].concat());
+            if let Some(third) = third(&case) {
+                assert_eq!(third, outcome);
             }
         }
     }

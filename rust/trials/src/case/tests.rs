@@ -45,6 +45,23 @@ fn a_case_in_a_mode_shows_its_number() {
 }
 
 #[test]
+fn a_message_of_bits_shows_how_many() {
+    let mut case = case();
+    case.routine = Routine::DigestBits {
+        mode: 1,
+        bits: 128,
+        message_bits: 23,
+    };
+    let shown = case.to_string();
+    let begin = "digest of bits, mode 1, 128 bits of 23, salt 5a";
+    assert!(shown.starts_with(begin), "{shown}");
+    assert!(
+        shown.ends_with(", message 616263, room of 20 bytes"),
+        "{shown}"
+    );
+}
+
+#[test]
 fn a_wide_counter_is_shown_in_hex() {
     let mut case = case();
     let (count, counter) = (8, (1 << 64) - 1);

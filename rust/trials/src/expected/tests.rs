@@ -110,6 +110,50 @@ fn digests_in_a_mode() {
     }
 }
 
+/// The bit count is asked about before the room, and the bytes behind it.
+#[test]
+fn digests_of_bits() {
+    for (mode, bits, salt, message, message_bits, room, number) in [
+        (0, 128, 16, &[][..], 0, 16, 0),
+        (1, 512, 16, &[0x80], 1, 64, 0),
+        (0, 256, 16, &[0xff, 0xe0], 11, 32, 0),
+        (0, 256, 16, &[0xff, 0xff], 16, 32, 0),
+        (0, 256, 16, &[0xff, 0xf0], 11, 32, 17),
+        (0, 256, 16, &[0, 1], 15, 32, 17),
+        (0, 256, 16, &[0, 1], 8, 32, 6),
+        (0, 256, 16, &[0, 0], 8, 32, 6),
+        (0, 256, 16, &[0, 0], 17, 32, 6),
+        (2, 256, 16, &[0, 1], 15, 32, 6),
+        (2, 256, 16, &[0, 1], 15, 31, 5),
+        (0, 256, 16, &[1], 7, 31, 5),
+        (0, 256, 16, &[], MOST_BITS, 32, 6),
+        (0, 256, 16, &[], MOST_BITS, 31, 5),
+        (0, 256, 16, &[], MOST_BITS + 1, 31, 4),
+        (2, 256, 16, &[], u64::MAX, 0, 4),
+        (2, 256, 17, &[], u64::MAX, 0, 2),
+        (2, 260, 17, &[], u64::MAX, 0, 1),
+    ] {
+        let routine = Routine::DigestBits {
+            mode,
+            bits,
+            message_bits,
+        };
+        let case = case(routine, salt, message, room);
+        assert_eq!(answer(&case), (number, 0), "{case}");
+    }
+}
+
+#[test]
+fn set_bits_behind_the_first_ones() {
+    for place in 0..24 {
+        let mut bytes = [0; 3];
+        bytes[place / 8] = 0x80 >> (place % 8);
+        for first in (0..=24).chain([u64::MAX]) {
+            assert_eq!(set_behind(&bytes, first), place as u64 >= first);
+        }
+    }
+}
+
 #[test]
 fn compressions_in_a_mode() {
     for (mode, chaining, block, counter, salt, number) in [

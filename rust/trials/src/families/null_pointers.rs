@@ -36,6 +36,17 @@ extern "C" {
         out: *mut u8,
         out_len: usize,
     ) -> u8;
+    fn bahmorist_digest_bits(
+        mode: u8,
+        bits: u64,
+        salt: *const u8,
+        salt_len: usize,
+        message: *const u8,
+        message_len: usize,
+        message_bits: u64,
+        out: *mut u8,
+        out_len: usize,
+    ) -> u8;
     fn bahmorist_hmac(
         bits: u64,
         salt: *const u8,
@@ -134,7 +145,7 @@ extern "C" {
     ) -> u8;
 }
 
-// SAFETY, for all twelve: the pointer of a slice and its length, or NULL and 0; what
+// SAFETY, for all thirteen: the pointer of a slice and its length, or NULL and 0; what
 // is written comes from a `&mut`.
 pub const WITH_NULL: Implementation = Implementation {
     digest: |bits, salt, message, out| {
@@ -155,6 +166,24 @@ pub const WITH_NULL: Implementation = Implementation {
                 salt_len,
                 message,
                 message_len,
+                out,
+                out_len,
+            )
+        }
+    },
+    digest_bits: |mode, bits, salt, message, message_bits, out| {
+        let (salt, salt_len) = read(salt);
+        let (message, message_len) = read(message);
+        let (out, out_len) = written(out);
+        unsafe {
+            bahmorist_digest_bits(
+                mode,
+                bits,
+                salt,
+                salt_len,
+                message,
+                message_len,
+                message_bits,
                 out,
                 out_len,
             )
@@ -313,7 +342,7 @@ fn written(bytes: &mut [u8]) -> (*mut u8, usize) {
 fn run(run: &mut Run) -> Result<(), String> {
     run.subject = WITH_NULL;
     let routines = routines().into_iter().chain(in_modes());
-    for (routine, input, lent) in routines.chain(wide()) {
+    for (routine, input, lent) in routines.chain(wide()).chain(of_bits()) {
         for empty in 0..8 {
             let case = with_empty(run, empty, routine, 0, input, lent);
             run.check(&case)?;
@@ -406,6 +435,29 @@ fn wide() -> [(Routine, usize, usize); 9] {
         (compress(1), 224, 32),
         (compress(1), 192, 64),
         (compress(2), 192, 64),
+    ]
+}
+
+/// The same of messages with a bit count: the last but two has a set bit behind it, and
+/// the last two bits that are no message's.
+fn of_bits() -> [(Routine, usize, usize); 11] {
+    let digest = |mode, bits, message_bits| Routine::DigestBits {
+        mode,
+        bits,
+        message_bits,
+    };
+    [
+        (digest(0, 256, 0), 0, 32),
+        (digest(1, 512, 0), 0, 64),
+        (digest(0, 256, 1536), 192, 32),
+        (digest(0, 512, 1025), 129, 64),
+        (digest(1, 128, 37), 5, 16),
+        (digest(1, 512, 1600), 200, 64),
+        (digest(2, 256, 37), 5, 32),
+        (digest(0, 0, 37), 5, 64),
+        (digest(1, 256, 3), 1, 32),
+        (digest(0, 256, expected::MOST_BITS), 5, 32),
+        (digest(1, 256, u64::MAX), 5, 32),
     ]
 }
 

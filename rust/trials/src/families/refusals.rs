@@ -30,6 +30,7 @@ fn run(run: &mut Run) -> Result<(), String> {
     cases.extend(fingerprints(&mut run.generator));
     cases.extend(wide_rounds(&mut run.generator));
     cases.extend(wide_in_modes(&mut run.generator, &inputs::MODES[..2]));
+    cases.extend(of_bits(&mut run.generator, &inputs::MODES[..2]));
     cases.iter().try_for_each(|case| run.check(case))?;
     let checks = checks(&mut run.generator);
     checks.iter().try_for_each(|case| run.check(case))?;
@@ -40,6 +41,7 @@ fn run(run: &mut Run) -> Result<(), String> {
     let mut cases = in_modes(&mut run.generator, &inputs::MODES);
     cases.extend(wide_rounds(&mut run.generator));
     cases.extend(wide_in_modes(&mut run.generator, &inputs::MODES));
+    cases.extend(of_bits(&mut run.generator, &inputs::MODES));
     cases.iter().try_for_each(|case| run.check(case))
 }
 
@@ -72,6 +74,33 @@ fn digests(generator: &mut Generator, routine: impl Fn(u64) -> Routine) -> Vec<C
             for room in inputs::rooms(bits) {
                 for message in [0, 3, 200] {
                     cases.push(filled(generator, routine(bits), salt, message, room));
+                }
+            }
+        }
+    }
+    cases
+}
+
+/// Numbers 1, 2, 5, 6 and 17 in each of these modes, and 4 with 6, since no message is
+/// lent that is so long.
+fn of_bits(generator: &mut Generator, modes: &[u8]) -> Vec<Case> {
+    let mut cases = Vec::new();
+    for &mode in modes {
+        for bits in inputs::BITS {
+            for salt in inputs::SALTS {
+                for room in inputs::rooms(bits) {
+                    for message in inputs::MESSAGES_OF_BITS {
+                        let routine = Routine::DigestBits {
+                            mode,
+                            bits,
+                            message_bits: message.bits,
+                        };
+                        let case = filled(generator, routine, salt, 0, room);
+                        cases.push(Case {
+                            input: message.bytes(generator),
+                            ..case
+                        });
+                    }
                 }
             }
         }

@@ -1,4 +1,5 @@
 use crate::draw::EDGE;
+use crate::families::{bit_edges, bit_lengths, whole_bytes};
 use crate::families::{both_widths, compressions, every_length, random_messages};
 use crate::families::{rounds_backward, rounds_forward, tables, there_and_back};
 use crate::families::{wide_compressions, wide_rounds};
@@ -65,6 +66,47 @@ fn a_mode_that_is_left_out_is_seen() {
     };
     let said = tried(&compressions::FAMILY, wrong).unwrap_err();
     assert!(said.contains("compression, mode 1, "), "{said}");
+}
+
+/// A block that is taken to hold one bit more than it does with its padding.
+#[test]
+fn a_digest_of_bits_that_is_wrong_at_an_edge_is_seen() {
+    let wrong = Implementation {
+        digest_bits: |mode, bits, salt, message, message_bits, out| {
+            let number = (LIBRARY.digest_bits)(mode, bits, salt, message, message_bits, out);
+            out[0] ^= u8::from((mode, bits, message_bits) == (1, 256, 1648));
+            number
+        },
+        ..LIBRARY
+    };
+    // Each of the 1648 lengths before has eight cases, and this one has two.
+    let said = tried(&bit_lengths::FAMILY, wrong).unwrap_err();
+    let case = "case 13187: digest of bits, mode 1, 256 bits of 1648, ";
+    assert!(said.starts_with(case), "{said}");
+    let said = tried(&bit_edges::FAMILY, wrong).unwrap_err();
+    assert!(
+        said.contains("digest of bits, mode 1, 256 bits of 1648, "),
+        "{said}"
+    );
+    assert!(tried(&whole_bytes::FAMILY, wrong).is_err());
+}
+
+/// The length padded in whole bytes: the digest of the bytes that hold the bits.
+#[test]
+fn a_part_of_a_byte_that_counts_as_a_whole_is_seen() {
+    let wrong = Implementation {
+        digest_bits: |mode, bits, salt, message, _, out| {
+            (LIBRARY.digest_in)(mode, bits, salt, message, out)
+        },
+        ..LIBRARY
+    };
+    assert!(tried(&whole_bytes::FAMILY, wrong).is_ok());
+    let said = tried(&bit_lengths::FAMILY, wrong).unwrap_err();
+    assert!(
+        said.starts_with("case 9: digest of bits, mode 0, 256 bits of 1, "),
+        "{said}"
+    );
+    assert!(tried(&bit_edges::FAMILY, wrong).is_err());
 }
 
 #[test]
@@ -219,6 +261,12 @@ fn a_table_that_is_one_byte_too_long_to_be_refused_is_seen() {
 fn the_library_passes_and_is_counted() {
     assert_eq!(tried(&tables::FAMILY, LIBRARY), Ok(200));
     assert_eq!(tried(&compressions::FAMILY, LIBRARY), Ok(200 + 6 * 18));
+    let bits = tried(&bit_lengths::FAMILY, LIBRARY);
+    assert_eq!(bits, Ok(2 * (2 * 2 * 4701 + 200)));
+    let bits = tried(&bit_edges::FAMILY, LIBRARY);
+    assert_eq!(bits, Ok(2 * 2 * 49 * (4 * 17 + 8)));
+    let bytes = tried(&whole_bytes::FAMILY, LIBRARY);
+    assert_eq!(bytes, Ok(2 * 2 * 601 + 200));
     // 481 starts, each case by both.
     let wide = tried(&wide_rounds::FAMILY, LIBRARY);
     assert_eq!(wide, Ok(2 * 2 * (2 * 481 + 200)));

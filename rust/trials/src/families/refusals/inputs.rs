@@ -1,6 +1,6 @@
 //! Inputs at both sides of every bound.
 
-use crate::expected::HIGHEST_COUNTER;
+use crate::expected::{HIGHEST_COUNTER, MOST_BITS};
 use crate::table::{of_length, record, LIMIT};
 use seeded::Generator;
 
@@ -40,6 +40,60 @@ pub fn rooms(bits: u64) -> [usize; 4] {
         _ => 64,
     };
     [0, right.saturating_sub(1), right, right + 7]
+}
+
+/// A message by its bits and the bytes that are lent for it, with or without a set bit
+/// behind the last one.
+pub struct OfBits {
+    pub bits: u64,
+    bytes: usize,
+    set: bool,
+}
+
+/// Messages that are whole bytes or end within one; with bytes too many or too few; with
+/// a bit set behind the last one, in its byte or in one too many; and with more bits than
+/// are lent, up to the limit and above.
+pub const MESSAGES_OF_BITS: [OfBits; 20] = [
+    of_bits(0, 0, false),
+    of_bits(8, 1, false),
+    of_bits(11, 2, false),
+    of_bits(1391, 174, false),
+    of_bits(1392, 174, false),
+    of_bits(0, 1, false),
+    of_bits(1, 0, false),
+    of_bits(11, 1, false),
+    of_bits(11, 3, false),
+    of_bits(16, 3, false),
+    of_bits((1 << 32) + 11, 2, false),
+    of_bits(8 << 32, 0, false),
+    of_bits(MOST_BITS, 5, false),
+    of_bits(MOST_BITS + 1, 5, false),
+    of_bits(u64::MAX, 0, false),
+    of_bits(11, 2, true),
+    of_bits(1391, 174, true),
+    of_bits(0, 1, true),
+    of_bits(11, 3, true),
+    of_bits(16, 3, true),
+];
+
+const fn of_bits(bits: u64, bytes: usize, set: bool) -> OfBits {
+    OfBits { bits, bytes, set }
+}
+
+impl OfBits {
+    /// The bytes: those of the message at random, and behind them zeros but for one bit.
+    pub fn bytes(&self, generator: &mut Generator) -> Vec<u8> {
+        let mut bytes = generator.vector(self.bytes);
+        let all = 8 * self.bytes as u64;
+        for place in self.bits.min(all)..all {
+            bytes[place as usize / 8] &= !(0x80 >> (place % 8));
+        }
+        if self.set {
+            let place = self.bits + generator.below(all - self.bits);
+            bytes[place as usize / 8] |= 0x80 >> (place % 8);
+        }
+        bytes
+    }
 }
 
 /// Lengths of a square.

@@ -61,6 +61,22 @@ fn every_set_of_refusals_is_met_in_each_mode() {
     }
 }
 
+/// Of a message with a bit count: 4 comes with 6 alone, and never with 17, since no
+/// message is lent that is so long; and where the mode has no number, 6 always comes.
+#[test]
+fn every_set_of_refusals_of_bits_is_met() {
+    let generator = &mut Generator::new(1);
+    for mode in inputs::MODES {
+        let mut expected = every_set(&[1, 2, 4, 5, 6, 17]);
+        expected.retain(|set| {
+            let has = |number| set.contains(&number);
+            (!has(4) || has(6) && !has(17)) && (has(6) || mode <= 1)
+        });
+        assert_eq!(expected.len(), if mode <= 1 { 40 } else { 24 });
+        assert_eq!(sets(of_bits(generator, &[mode])), expected);
+    }
+}
+
 /// What the family says of an implementation with something else in its place.
 fn said(wrong: Implementation) -> String {
     FAMILY.tried(wrong, 1, None).unwrap_err()
@@ -76,6 +92,61 @@ fn the_wrong_order_of_two_refusals_is_seen() {
         ..LIBRARY
     };
     assert!(said(wrong).ends_with("refused 2 at 0, where refused 1 at 0 is right"));
+}
+
+/// By bytes before by bits, the limit one off, set bits that are taken, and set bits that
+/// are refused before the bytes are counted.
+#[test]
+fn refusals_of_bits_that_are_wrong_are_seen() {
+    let wrong = Implementation {
+        digest_bits: |mode, bits, salt, message, message_bits, out| match (LIBRARY.digest_bits)(
+            mode,
+            bits,
+            salt,
+            message,
+            message_bits,
+            out,
+        ) {
+            4 => 6,
+            number => number,
+        },
+        ..LIBRARY
+    };
+    assert!(said(wrong).ends_with("refused 6 at 0, where refused 4 at 0 is right"));
+    let wrong = Implementation {
+        digest_bits: |mode, bits, salt, message, message_bits, out| {
+            let message_bits = message_bits.saturating_sub(u64::from(message_bits > 1 << 63));
+            (LIBRARY.digest_bits)(mode, bits, salt, message, message_bits, out)
+        },
+        ..LIBRARY
+    };
+    let limit = "bits of 18446744073709551456, ";
+    assert!(said(wrong).contains(limit));
+    let wrong = Implementation {
+        digest_bits: |mode, bits, salt, message, message_bits, out| {
+            let mut cleared = message.to_vec();
+            if let Some(last) = cleared.last_mut() {
+                *last &= 0xff << (message_bits.wrapping_neg() % 8);
+            }
+            (LIBRARY.digest_bits)(mode, bits, salt, &cleared, message_bits, out)
+        },
+        ..LIBRARY
+    };
+    let said_of_set_bits = said(wrong);
+    let seen = "done, where refused 17 at 0 is right";
+    assert!(said_of_set_bits.ends_with(seen), "{said_of_set_bits}");
+    let wrong = Implementation {
+        digest_bits: |mode, bits, salt, message, message_bits, out| {
+            let number = (LIBRARY.digest_bits)(mode, bits, salt, message, message_bits, out);
+            let behind = message.get(message_bits as usize / 8..).unwrap_or(&[]);
+            match number {
+                6 if behind.iter().any(|byte| *byte != 0) => 17,
+                number => number,
+            }
+        },
+        ..LIBRARY
+    };
+    assert!(said(wrong).ends_with("refused 17 at 0, where refused 6 at 0 is right"));
 }
 
 #[test]

@@ -110,11 +110,11 @@ fn bytes(bits: u64, text: &str) -> Option<Vec<u8>> {
     if bits == 0 {
         return (text == "00").then(Vec::new);
     }
-    let holds = |bytes: &Vec<u8>| {
-        let unused = bytes.last().map_or(0, |last| last << (bits - 1) % 8 << 1);
-        bytes.len() as u64 == bits.div_ceil(8) && unused == 0
-    };
-    hex::decode(text).filter(holds)
+    // How many bits are missing to a whole byte.
+    let unused = bits.wrapping_neg() % 8;
+    let zeros = |bytes: &[u8]| bytes.last().map_or(0, |last| last.trailing_zeros());
+    hex::decode(text)
+        .filter(|bytes| bytes.len() as u64 == bits.div_ceil(8) && u64::from(zeros(bytes)) >= unused)
 }
 
 fn message_form(bits: u64) -> String {

@@ -84,7 +84,7 @@ pub fn forged(generator: &mut Generator, mode: Mode, bits: u64, taken: u64) -> S
 pub fn forged_bits(generator: &mut Generator, mode: Mode, bits: u64, taken: u64) -> Session {
     let mut session = forged(generator, mode, bits, taken.div_ceil(8));
     let in_use = taken % (8 * family::of_bits(mode, bits).block as u64);
-    if in_use % 8 != 0 {
+    if !in_use.is_multiple_of(8) {
         // Where the byte is the last of its block, none of those is in use in bytes.
         let whole = in_use as usize / 8;
         let waiting = generator.vector(whole + 1);

@@ -7,12 +7,12 @@ use crate::draw;
 use crate::family::{Family, Run};
 
 pub const FAMILY: Family = Family {
-    name: "digests of all 49 lengths of bits round the block edges, in both modes",
+    name: "digests of messages in bits round the block edges, all 49 lengths in both modes",
     run,
 };
 
 /// How many blocks long the messages are at most.
-const BLOCKS: u64 = 2;
+const BLOCKS: u64 = 3;
 
 fn run(run: &mut Run) -> Result<(), String> {
     for bits in draw::digest_lengths() {

@@ -264,7 +264,7 @@ fn the_library_passes_and_is_counted() {
     let bits = tried(&bit_lengths::FAMILY, LIBRARY);
     assert_eq!(bits, Ok(2 * (2 * 2 * 4701 + 200)));
     let bits = tried(&bit_edges::FAMILY, LIBRARY);
-    assert_eq!(bits, Ok(2 * 2 * 49 * (4 * 17 + 8)));
+    assert_eq!(bits, Ok(2 * 2 * 49 * (6 * 17 + 8)));
     let bytes = tried(&whole_bytes::FAMILY, LIBRARY);
     assert_eq!(bytes, Ok(2 * 2 * 601 + 200));
     // 481 starts, each case by both.

@@ -25,7 +25,7 @@ pub fn cases(generator: &mut Generator, mode: Mode) -> Vec<Case> {
     cases
 }
 
-pub fn records(generator: &mut Generator, mode: Mode) -> Vec<Session> {
+fn records(generator: &mut Generator, mode: Mode) -> Vec<Session> {
     let near = near_sessions::records(generator, mode);
     let mut records: Vec<Session> = near.iter().map(in_bits).collect();
     let near = near_sessions::records(generator, mode);

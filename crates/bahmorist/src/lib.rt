@@ -62,7 +62,7 @@ pub extern "C" fn bahmorist_digest_bits(
     if no_mode(mode) {
         let whole = (count / 8) as usize;
         let refusal = echo::digest_refusal(bits, salt.len(), whole, out.len());
-        return if refusal == 0 { 6 } else { refusal };
+        return if refusal != 0 { refusal } else { 6 };
     }
     echo::digest_bits(mode_of(mode), bits, salt, message, count, out)
 }

@@ -1,4 +1,4 @@
--- Eight wrong programs of must-fail/ change a definition and not the code, since the code could be made so only by a change of its shape. For each, a
+-- Ten wrong programs of must-fail/ change a definition and not the code, since the code could be made so only by a change of its shape. For each, a
 -- point at which the definition and the changed one, which is written out, differ. Assumes nothing.
 use mathlib.Core.Path.{_≡_, refl, sym, ap, _∙_}
 use mathlib.Core.Bool.{Bool, _&&_, true≢false}
@@ -16,6 +16,7 @@ use Rattle.echo.specs.Bits.{bitsOf, byteBits}
 use Rattle.echo.specs.Compression.{bigFinal, fold, xorSum}
 use Rattle.echo.specs.Families.{blockSize, chainingSize}
 use Rattle.echo.specs.Numbers.{littleEndian}
+use Rattle.echo.specs.Padding.{padding}
 use Rattle.echo.specs.Refusals.{unless}
 use Rattle.echo.specs.Session.{admitted, allZero, bitLimit, blank, isSession, made, readLeaves, readRefusal, sessionDigest}
 use Rattle.echo.specs.Square.{counterKey, keysFrom, wideKey, wideKeysFrom}
@@ -53,6 +54,21 @@ pub most-significant-first-differs : littleEndian 2 1 ≡ tab 2 (λ i. 1 / (256 
 unfolding littleEndian
 most-significant-first-differs e =
     let z : _≡_ {A = ℕ} 1 0 = sym (getD-tab 2 (λ i. 1 / 256 ^ i % 256) 0 (lit< tt)) ∙ ap (λ (l : List ℕ). getD l 0 0) e ∙ getD-tab 2 _ 0 (lit< tt) in
+    omega arith
+
+-- a message of one bit: the last bit of its length's first byte
+pub length-in-bytes-differs : padding 1536 256 1
+    ≡ 1 ∷ (replicate (1536 - (1 + 144) % 1536 - 1) 0 ++ (bitsOf (littleEndian 2 256) ++ bitsOf (littleEndian 16 (1 / 8)))) → ⊥
+unfolding padding bitsOf byteBits littleEndian tab
+length-in-bytes-differs e =
+    let z : _≡_ {A = ℕ} 1 0 = ap (λ (l : List ℕ). getD l 1414 0) e in
+    omega arith
+
+pub length-in-whole-bytes-differs : padding 1536 256 1
+    ≡ 1 ∷ (replicate (1536 - (1 + 144) % 1536 - 1) 0 ++ (bitsOf (littleEndian 2 256) ++ bitsOf (littleEndian 16 (8 * ((1 + 7) / 8))))) → ⊥
+unfolding padding bitsOf byteBits littleEndian tab
+length-in-whole-bytes-differs e =
+    let z : _≡_ {A = ℕ} 1 0 = ap (λ (l : List ℕ). getD l 1414 0) e in
     omega arith
 
 -- a chaining variable of the one byte 1, and no block

@@ -12,7 +12,7 @@ use super::families::chaining_size;
 use super::mode::Mode;
 
 // The most bits of a message, 2^64 - 161.
-pub(crate) const BIT_LIMIT: u64 = 0xffff_ffff_ffff_ff5f;
+pub(crate) const BIT_LIMIT: u64 = 18_446_744_073_709_551_455;
 
 // The most bytes within that, 2^61 - 21.
 pub(crate) const LIMIT: u64 = 2_305_843_009_213_693_931;

@@ -11,10 +11,10 @@ digest-refusal-requires : tie.Need-digest-refusal-requires
 digest-refusal-requires c κs = search needs
 
 returns : tie.Need-returns
-returns c = (search bits-6, search bits-no-mode-leaves)
+returns c = (search bits-less, search bits-no-mode-leaves)
 
 returns-2 : tie.Need-returns-2
-returns-2 c = (search bits-less, search bits-no-mode-leaves)
+returns-2 c = (search bits-6, search bits-no-mode-leaves)
 
 mode-of-requires : tie.Need-mode-of-requires
 mode-of-requires c κs = search needs

@@ -108,7 +108,8 @@ abbrev unlooked : Session → Bool
 unlooked s =
     admitted (s .bits)
     && (leb (s .taken) bitLimit
-    && (allZero (drop (s .taken % (8 * blockSize (s .mode) (s .bits))) (bitsOf (take 192 (s .waiting)))) && allZero (drop (chainingSize (s .mode) (s .bits)) (s .chaining))))
+    && (allZero (drop (s .taken % (8 * blockSize (s .mode) (s .bits))) (bitsOf (take 192 (s .waiting))))
+    && allZero (drop (chainingSize (s .mode) (s .bits)) (s .chaining))))
 
 -- an opened session in double-pipe but for one byte past 192
 pub set-byte-past-192-differs : isSession past192 ≡ unlooked past192 → ⊥

@@ -93,27 +93,29 @@ module _ (mode : Mode) (h : ℕ) (salt : List ℕ) (a : admitted h ≡ true) (l 
   a-piece-is-joined m piece fits = takes mode h salt a m piece (omega (arith, length-append m piece, fits))
 
   -- and so are bits, behind whole bytes, or none
-  pub a-piece-of-bits-is-joined : (m : List ℕ) (k : ℕ) → Sized m k → (piece : List ℕ) (j : ℕ) → Sized piece j → (k % 8 ≡ 0) ⊎ (j ≡ 0) → k + j ≤ bitLimit
-      → addBitsAnswer (addBits (opened mode h salt) m k) piece j ≡ record { refusal = 0; session = addBits (opened mode h salt) (m ++ piece) (k + j) }
-  a-piece-of-bits-is-joined m k S piece j T one fits = ⊎-elim whole none one
-    where
-      whole : k % 8 ≡ 0
-          → addBitsAnswer (addBits (opened mode h salt) m k) piece j ≡ record { refusal = 0; session = addBits (opened mode h salt) (m ++ piece) (k + j) }
-      whole e =
-          let n : k ≡ 8 * length m = omega (arith, S .size) in
-          ap (λ (i : ℕ). addBitsAnswer (addBits (opened mode h salt) m i) piece j) n
-          ∙ ap (λ (s : Session). addBitsAnswer s piece j) (add-whole (opened mode h salt) m)
-          ∙ takes-bits mode h salt a m piece j T (omega (arith, n))
-          ∙ ap (λ (i : ℕ). record { refusal = 0; session = addBits (opened mode h salt) (m ++ piece) (i + j) }) (sym n)
+  module _ (m : List ℕ) (k : ℕ) (S : Sized m k) (piece : List ℕ) (j : ℕ) (T : Sized piece j) (fits : k + j ≤ bitLimit) where
+    abbrev Joined : Type 0
+    Joined = addBitsAnswer (addBits (opened mode h salt) m k) piece j ≡ record { refusal = 0; session = addBits (opened mode h salt) (m ++ piece) (k + j) }
 
-      none : j ≡ 0 → addBitsAnswer (addBits (opened mode h salt) m k) piece j ≡ record { refusal = 0; session = addBits (opened mode h salt) (m ++ piece) (k + j) }
-      none e =
-          let size : length piece ≤ 0 = omega (arith, T .size) in
-          let empty : [] ≡ piece = take-all 0 piece size in
-          ap₂ (λ (p : List ℕ) (i : ℕ). addBitsAnswer (addBits (opened mode h salt) m k) p i) (sym empty) e
-          ∙ empty-taken (addBits (opened mode h salt) m k) (bits-is-session mode h salt m k S a (omega (arith, fits)))
-          ∙ ap₂ (λ (p : List ℕ) (i : ℕ). record { refusal = 0; session = addBits (opened mode h salt) p i })
-          (sym (append-nil m) ∙ ap (λ (p : List ℕ). m ++ p) empty) (sym (add-zero k) ∙ ap (λ (i : ℕ). k + i) (sym e))
+    behind-whole : k % 8 ≡ 0 → Joined
+    behind-whole e =
+        let n : k ≡ 8 * length m = omega (arith, S .size) in
+        ap (λ (i : ℕ). addBitsAnswer (addBits (opened mode h salt) m i) piece j) n
+        ∙ ap (λ (s : Session). addBitsAnswer s piece j) (add-whole (opened mode h salt) m)
+        ∙ takes-bits mode h salt a m piece j T (omega (arith, n))
+        ∙ ap (λ (i : ℕ). record { refusal = 0; session = addBits (opened mode h salt) (m ++ piece) (i + j) }) (sym n)
+
+    none-behind : j ≡ 0 → Joined
+    none-behind e =
+        let size : length piece ≤ 0 = omega (arith, T .size) in
+        let empty : [] ≡ piece = take-all 0 piece size in
+        ap₂ (λ (p : List ℕ) (i : ℕ). addBitsAnswer (addBits (opened mode h salt) m k) p i) (sym empty) e
+        ∙ empty-taken (addBits (opened mode h salt) m k) (bits-is-session mode h salt m k S a (omega (arith, fits)))
+        ∙ ap₂ (λ (p : List ℕ) (i : ℕ). record { refusal = 0; session = addBits (opened mode h salt) p i })
+        (sym (append-nil m) ∙ ap (λ (p : List ℕ). m ++ p) empty) (sym (add-zero k) ∙ ap (λ (i : ℕ). k + i) (sym e))
+
+    pub a-piece-of-bits-is-joined : (k % 8 ≡ 0) ⊎ (j ≡ 0) → Joined
+    a-piece-of-bits-is-joined one = ⊎-elim behind-whole none-behind one
 
   opened-session : openAnswer mode h salt .session ≡ holding []
   opened-session = ap (λ (x : Answer). x .session) an-opening-opens ∙ sym (add-nothing (opened mode h salt))
@@ -170,7 +172,8 @@ module _ (mode : Mode) (h : ℕ) (salt : List ℕ) (a : admitted h ≡ true) (l 
         × (readAnswer (ended .session) (length room) .refusal ≡ 0)
         × (readLeaves (ended .session) room ≡ bitDigestOf mode h salt (bitsOf (joined pieces) ++ take count (bitsOf last)) ++ drop (h / 8) room)
     however-cut-the-digest-is-the-papers-in-bits room r =
-        let R = reads-bits mode h salt a (joined pieces ++ last) (8 * length (joined pieces) + count) room (joined-sized last count S (joined pieces)) fits r in (
+        let T = joined-sized last count S (joined pieces) in
+        let R = reads-bits mode h salt a (joined pieces ++ last) (8 * length (joined pieces) + count) room T fits r in (
           ap (λ (x : Answer). x .refusal) ended-is,
           ap (λ (x : Answer). readAnswer (x .session) (length room) .refusal) ended-is ∙ ap (λ (x : Answer). x .refusal) (R .0),
           ap (λ (x : Answer). readLeaves (x .session) room) ended-is

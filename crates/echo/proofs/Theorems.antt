@@ -198,7 +198,7 @@ pub a-piece-of-bits-is-joined : (mode : Mode) (h : ℕ) (salt m : List ℕ) (k :
     → k + j ≤ bitLimit
     → addBitsAnswer (addBits (opened mode h salt) m k) piece j ≡ record { refusal = 0; session = addBits (opened mode h salt) (m ++ piece) (k + j) }
 a-piece-of-bits-is-joined mode h salt m k piece j a l s y t z one fits =
-    digest.a-piece-of-bits-is-joined mode h salt a l m k (record { size = s; clear = y }) piece j (record { size = t; clear = z }) one fits
+    digest.a-piece-of-bits-is-joined mode h salt a l m k (record { size = s; clear = y }) piece j (record { size = t; clear = z }) fits one
 
 pub a-piece-is-joined : (mode : Mode) (h : ℕ) (salt m piece : List ℕ)
     → admitted h ≡ true

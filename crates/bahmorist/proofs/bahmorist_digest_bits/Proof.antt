@@ -1,4 +1,5 @@
--- `bahmorist_digest_bits` meets its contract: a number that is no mode's is refused behind 1, 2, 4 and 5, and any other names the mode of a digest. Assumes nothing.
+-- `bahmorist_digest_bits` meets its contract: a number that is no mode's is refused behind 1, 2, 4 and 5, and any other names the mode. Assumes
+-- nothing.
 use borrow.Author.Needs.{needs}
 use Rattle.bahmorist.proofs.Laws.Modes.{bits-6, bits-left-on, bits-less, bits-no-mode-leaves, bits-passed-on}
 use Rattle.bahmorist.proofs.bahmorist_digest_bits.Statement.{statement}

@@ -1,19 +1,18 @@
 -- Bytes as bits and bits as bytes: one undoes the other, bytes and a part byte at the front, the bit that marks a part byte, and bits that are
 -- zero. Assumes nothing.
-use mathlib.Core.Path.{_≡_, refl, sym, ap, ap₂, _∙_, subst}
+use mathlib.Core.Path.{_≡_, refl, sym, ap, ap₂, _∙_}
 use mathlib.Core.Bool.{Bool, true, false, _&&_, true≢false}
 use mathlib.Core.List.{List, [], _∷_, _++_, append-assoc, append-nil}
 use Prim.Native.Nat.{ℕ, zero, suc, _+_, _*_, _-_, _/_, _%_, _^_, _<_, _≤_}
 use native.Mathlib.Omega.{arith}
 use borrow.Author.Tests.{eq-eqb, ne-eqb}
-use lib.Dec.{T, eqb}
-use lib.ListN.{List·getD-append, List·getD-eq-default, drop, getD, length, length-append, length-drop, length-replicate, replicate, replicate-append-replicate, take, take-append-drop}
+use lib.Dec.{eqb}
+use lib.ListN.{List·getD-append, List·getD-eq-default, drop, getD, length, length-append, length-drop, length-replicate, replicate}
+use lib.ListN.{replicate-append-replicate, take, take-append-drop}
 use lib.Seq.{drop-append-add, drop-append-le, drop-length, drop-nil, length-take-le, split-at, take-all, take-append-add, take-append-le, take-length}
 use Rattle.aes_round.specs.Bytes.{tab}
 use Rattle.aes_round.proofs.Laws.Bytes.{getD-tab, is-tab, length-tab}
-use Rattle.aes_round.proofs.Laws.Every.{Agree, agree, below, every}
 use Rattle.echo.specs.Bits.{bitsOf, byteBits, firstByte, packed}
-use Rattle.echo.specs.Families.{either}
 use Rattle.echo.specs.Session.{allZero}
 use Rattle.echo.proofs.Laws.Zeros.{both, zero-append, zeros-only}
 
@@ -67,7 +66,16 @@ first-only : (e rest : List ℕ) → length e ≡ 8 → firstByte (e ++ rest) �
 unfolding firstByte
 first-only e rest l =
     let at = List·getD-append e rest 0 in
-    rw (at 0 (omega arith), at 1 (omega arith), at 2 (omega arith), at 3 (omega arith), at 4 (omega arith), at 5 (omega arith), at 6 (omega arith), at 7 (omega arith))
+    rw (
+      at 0 (omega arith),
+      at 1 (omega arith),
+      at 2 (omega arith),
+      at 3 (omega arith),
+      at 4 (omega arith),
+      at 5 (omega arith),
+      at 6 (omega arith),
+      at 7 (omega arith),
+    )
 
 packed-byte : (e rest : List ℕ) → length e ≡ 8 → packed (e ++ rest) ≡ firstByte e ∷ packed rest
 unfolding packed
@@ -204,7 +212,8 @@ bits-zero [] = refl
 bits-zero (x ∷ xs) = zero-append (byteBits x) (bitsOf xs) ∙ ap₂ _&&_ (byte-zero x) (bits-zero xs)
 
 -- nothing but zeros behind a part byte
-pub part-ends : (p : List ℕ) (x : ℕ) (ys : List ℕ) (k r : ℕ) → length p ≡ k → Part x r → allZero ys ≡ true → allZero (drop (8 * k + r) (bitsOf (p ++ x ∷ ys))) ≡ true
+pub part-ends : (p : List ℕ) (x : ℕ) (ys : List ℕ) (k r : ℕ) → length p ≡ k → Part x r → allZero ys ≡ true
+    → allZero (drop (8 * k + r) (bitsOf (p ++ x ∷ ys))) ≡ true
 part-ends p x ys k r long P z =
     ap allZero (drop-bits p x ys k r long (omega (arith, P .few)))
     ∙ zero-append (drop r (byteBits x)) (bitsOf ys)

@@ -2,15 +2,15 @@
 use mathlib.Core.Path.{_≡_, refl, sym, ap, ap₂, _∙_, subst}
 use mathlib.Core.Bool.{Bool, true, false}
 use mathlib.Core.Logic.{⊎-elim}
-use mathlib.Core.List.{List, [], _∷_, _++_, append-assoc}
+use mathlib.Core.List.{List, _∷_, _++_, append-assoc}
 use Prim.Native.Nat.{ℕ, zero, suc, _+_, _*_, _-_, _/_, _%_, _^_, _<_, _≤_, min}
 use native.Mathlib.Nat.{add-zero, div-add-mod, div-eq-of-lt, min-eq-left, mod-eq-of-lt, mod-lt, mul-add, mul-add-div, mul-add-mod-self-left, mul-one, mul-zero}
 use native.Mathlib.Omega.{arith}
-use borrow.Author.Tests.{eq-eqb, eqb-true, le-ltb, lt-ltb, ne-eqb}
+use borrow.Author.Tests.{eq-eqb, le-ltb, lt-ltb, ne-eqb}
 use lib.Dec.{eqb, ltb}
 use lib.ListN.{drop, getD, getD-replicate, length, length-append, length-replicate, length-set, replicate, replicate-append-replicate, set, take}
-use lib.Seq.{drop-at, getD-drop, getD-set-other, getD-set-same, getD-take, length-take-le, take-all, take-at}
-use Rattle.aes_round.proofs.Laws.Bytes.{length-tab, lt-or-le, same-list}
+use lib.Seq.{drop-at, getD-set-other, getD-set-same, getD-take, length-take-le, take-all, take-at}
+use Rattle.aes_round.proofs.Laws.Bytes.{lt-or-le, same-list}
 use Rattle.aes_round.proofs.Laws.Xor.{length-xor}
 use Rattle.echo.specs.declared.mode.Mode.{Mode}
 use Rattle.echo.specs.Bits.{bitsOf, byteBits, packed}
@@ -124,10 +124,12 @@ module _ (msize L : ℕ) (least : 145 ≤ msize) where
       by : (u : ℕ) → L % msize ≡ u
           → either (ltb (msize * (L / msize + 0)) L) (min L (msize * (L / msize + 0) + msize)) 0 ≡ either (eqb (L % msize) 0) 0 L
       by zero e =
-          ap (λ (t : Bool). either t (min L (msize * (L / msize + 0) + msize)) 0) (le-ltb (msize * (L / msize + 0)) L (omega (arith, here, div-add-mod L msize)))
+          ap (λ (t : Bool). either t (min L (msize * (L / msize + 0) + msize)) 0)
+          (le-ltb (msize * (L / msize + 0)) L (omega (arith, here, div-add-mod L msize)))
           ∙ sym (ap (λ (t : Bool). either t 0 L) (eq-eqb (L % msize) 0 e))
       by (suc u) e =
-          ap (λ (t : Bool). either t (min L (msize * (L / msize + 0) + msize)) 0) (lt-ltb (msize * (L / msize + 0)) L (omega (arith, here, div-add-mod L msize)))
+          ap (λ (t : Bool). either t (min L (msize * (L / msize + 0) + msize)) 0)
+          (lt-ltb (msize * (L / msize + 0)) L (omega (arith, here, div-add-mod L msize)))
           ∙ min-eq-left (omega (arith, here, div-add-mod L msize, mod-lt L some))
           ∙ sym (ap (λ (t : Bool). either t 0 L) (ne-eqb (L % msize) 0 (λ z. omega arith)))
 

@@ -1,17 +1,17 @@
 -- From an opening, a session behaves as the list of the bits added. Assumes nothing.
-use mathlib.Core.Path.{_≡_, refl, sym, ap, ap₂, _∙_}
+use mathlib.Core.Path.{_≡_, refl, sym, ap, _∙_}
 use mathlib.Core.Bool.{true}
 use mathlib.Core.List.{List, [], _∷_, _++_}
 use Prim.Native.Nat.{ℕ, _+_, _*_, _-_, _/_, _%_, _≤_}
-use native.Mathlib.Nat.{add-zero, mul-zero, zero-add, zero-div, zero-mod}
+use native.Mathlib.Nat.{mul-zero, zero-add, zero-div, zero-mod}
 use native.Mathlib.Omega.{arith}
 use borrow.Author.Tests.{eq-eqb}
-use lib.ListN.{getD, length, length-append, replicate, take}
+use lib.ListN.{getD, length, replicate, take}
 use lib.Seq.{getD-append-add, length-take-le, take-append-add, take-length}
 use Rattle.aes_round.proofs.Laws.Bytes.{length-tab}
 use Rattle.echo.specs.declared.mode.Mode.{Mode}
 use Rattle.echo.specs.declared.session.Session.{Session}
-use Rattle.echo.specs.Bits.{bitsOf, byteBits, packed}
+use Rattle.echo.specs.Bits.{bitsOf, packed}
 use Rattle.echo.specs.Digest.{bitDigestOf, block, blockCount, counterAt, digest, digestOf, initial, iterate}
 use Rattle.echo.specs.Families.{blockSize, chainingSize, roundCount}
 use Rattle.echo.specs.Padding.{pad, padding}

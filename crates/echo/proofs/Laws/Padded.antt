@@ -84,7 +84,9 @@ module _ (b : ℕ) (pos : 0 < b) (h L x : ℕ) (P : Part x (L % 8)) where
       ∙ append-assoc (replicate (7 - L % 8) 0) (replicate (8 * zeros) 0) e)
       ∙ marked-byte x (L % 8) P (replicate (8 * zeros) 0 ++ e)
       ∙ ap (λ (l : List ℕ). (x + 2 ^ (7 - L % 8)) ∷ l)
-      (ap (λ (l : List ℕ). packed (l ++ e)) (sym (zero-bits zeros)) ∙ packed-bits (replicate zeros 0) e ∙ ap (λ (l : List ℕ). replicate zeros 0 ++ l) lengths-packed)
+      (ap (λ (l : List ℕ). packed (l ++ e)) (sym (zero-bits zeros))
+      ∙ packed-bits (replicate zeros 0) e
+      ∙ ap (λ (l : List ℕ). replicate zeros 0 ++ l) lengths-packed)
 
   -- behind whole bytes
   pub packed-behind : (m : List ℕ) → packed ((bitsOf m ++ take (L % 8) (byteBits x)) ++ padding (8 * b) h L) ≡ m ++ ending b h L x

@@ -183,7 +183,8 @@ module _ (s : Session) (piece : List ℕ) (count r : ℕ) (e : r ≡ addBitsRefu
   unfolding addBitsAnswer
   not-added some = by r (addBitsRefusal s piece count) e some
     where
-      by : (r n : ℕ) → r ≡ n → (r ≡ 0 → ⊥) → _≡_ {A = Answer} (record { refusal = r; session = s }) (record { refusal = n; session = unless n (addBits s piece count) s })
+      by : (r n : ℕ) → r ≡ n → (r ≡ 0 → ⊥)
+          → _≡_ {A = Answer} (record { refusal = r; session = s }) (record { refusal = n; session = unless n (addBits s piece count) s })
       by r zero e h = absurd (h e)
       by r (suc n) e h = ap (λ (k : ℕ). record { refusal = k; session = s }) e
 

@@ -3,7 +3,7 @@ use mathlib.Core.Path.{_≡_, refl, sym, ap, ap₂, _∙_, subst}
 use mathlib.Core.Bool.{Bool, true, false}
 use mathlib.Core.List.{List, [], _∷_, _++_}
 use Prim.Native.Nat.{ℕ, zero, suc, _+_, _*_, _-_, _/_, _%_, _^_, _<_, _≤_}
-use native.Mathlib.Nat.{add-assoc, add-zero, mod-lt}
+use native.Mathlib.Nat.{add-zero, mod-lt}
 use native.Mathlib.Numerals.{add-one}
 use native.Mathlib.Omega.{arith}
 use borrow.Author.Tests.{eq-eqb, ne-eqb}
@@ -126,7 +126,8 @@ module _ (mode : Mode) (bits taken : ℕ) (salt v₀ w₀ piece : List ℕ) (n :
   }
 
   module _ (i : ℕ) (v w : List ℕ) (at : ℕ) (A : Absorbed mode bits taken salt v₀ w₀ piece n i v w at) where
-    pub absorb-more : i < n → (count : ℕ) → n ≡ count / 8 → length piece ≡ (count + 7) / 8 → (v′ w′ : List ℕ) (at′ : ℕ) → length v′ ≡ length v → length w′ ≡ length w
+    pub absorb-more : i < n → (count : ℕ) → n ≡ count / 8 → length piece ≡ (count + 7) / 8 → (v′ w′ : List ℕ) (at′ : ℕ)
+        → length v′ ≡ length v → length w′ ≡ length w
         → at′ ≡ (taken + 8 * i + 8) / 8 % blockSize mode bits
         → made mode bits salt v′ (taken + 8 * i + 8) w′ ≡ addByte (made mode bits salt v (taken + 8 * i) w) (getD piece i 0)
         → Absorbed mode bits taken salt v₀ w₀ piece n (i + 1) v′ w′ at′
@@ -183,7 +184,8 @@ module _ (mode : Mode) (bits taken : ℕ) (salt v₀ w₀ piece : List ℕ) (cou
       let e : taken + count ≡ taken + 8 * n = omega arith in
       rw (whole-bytes, eq-eqb (count % 8) 0 none, e)
 
-  pub absorb-part : (count % 8 ≡ 0 → ⊥) → made mode bits salt v (taken + count) (set w at (getD piece n 0)) ≡ addBits (made mode bits salt v₀ taken w₀) piece count
+  pub absorb-part : (count % 8 ≡ 0 → ⊥)
+      → made mode bits salt v (taken + count) (set w at (getD piece n 0)) ≡ addBits (made mode bits salt v₀ taken w₀) piece count
   unfolding addBits addPart
   absorb-part some =
       let e : taken + count ≡ taken + 8 * n + count % 8 = omega arith in

@@ -11,10 +11,8 @@ use lib.Dec.{ltb}
 use lib.ListN.{length, replicate, take}
 use Rattle.aes_round.proofs.Laws.Bytes.{lt-or-le}
 use Rattle.echo.specs.declared.mode.Mode.{Mode}
-use Rattle.echo.specs.Bits.{bitsOf, packed}
 use Rattle.echo.specs.Digest.{bitDigestOf, block, blockCount, counterAt, digest, digestOf, initial, iterate}
 use Rattle.echo.specs.Families.{blockSize, chainingSize, either, roundCount}
-use Rattle.echo.specs.Padding.{pad}
 use Rattle.echo.proofs.Laws.Bits.{length-bits}
 use Rattle.echo.proofs.Laws.Counting.{bits-div}
 use Rattle.echo.proofs.Laws.Families.{block-pos}

@@ -4,7 +4,7 @@ use Prim.Native.Nat.{ℕ, _+_, _*_, _/_, _%_}
 use lib.ListN.{drop, getD, length}
 use Rattle.aes_round.specs.Bytes.{tab}
 
--- the eight bits of a byte
+-- the eight bits of a byte, whose first is x / 128, 0 or 1
 unfoldable pub byteBits : ℕ → List ℕ
 byteBits x = x / 128 ∷ x / 64 % 2 ∷ x / 32 % 2 ∷ x / 16 % 2 ∷ x / 8 % 2 ∷ x / 4 % 2 ∷ x / 2 % 2 ∷ x % 2 ∷ []
 

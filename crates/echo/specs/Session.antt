@@ -135,13 +135,17 @@ otherSize bytes count = not (eqb bytes ((count + 7) / 8))
 abbrev pub setBelow : List ℕ → ℕ → Bool
 setBelow bytes count = not (allZero (drop count (bitsOf bytes)))
 
+-- 16: bits would stand behind a part byte
+abbrev pub behindPart : ℕ → ℕ → Bool
+behindPart taken count = not (eqb (taken % 8) 0) && not (eqb count 0)
+
 unfoldable pub addBitsRefusal : Session → List ℕ → ℕ → ℕ
 addBitsRefusal s piece count =
     firstOf
     ((3 when not (isSession s))
     ∷ (4 when ltb bitLimit (s .taken + count))
     ∷ (6 when otherSize (length piece) count)
-    ∷ (16 when not (eqb (s .taken % 8) 0) && not (eqb count 0))
+    ∷ (16 when behindPart (s .taken) count)
     ∷ (17 when setBelow piece count)
     ∷ [])
 
@@ -198,7 +202,7 @@ digestBitsLeaves mode h salt message count room =
     unless (digestBitsRefusal h (length salt) message count (length room))
     (bitDigestOf mode h salt (take count (bitsOf message)) ++ drop (h / 8) room) room
 
--- whole bytes: eight bits each, of which the numbers 6 and 17 never come
+-- of whole bytes, eight bits each: the same numbers, of which 6 and 17 never come
 unfoldable pub digestRefusal : ℕ → ℕ → ℕ → ℕ → ℕ
 digestRefusal h saltLength messageLength room =
     firstOf

@@ -1,10 +1,7 @@
 // Sessions: a digest over the pieces of a message.
-ghost use mathlib.Core.Bool.{not, _&&_};
 ghost use mathlib.Core.Path.{_≡_};
-ghost use Prim.Native.Nat.{_%_};
-ghost use lib.Dec.{eqb};
 ghost use lib.ListN.{length};
-ghost use Rattle.echo.specs.Session.{addAnswer, addBitsAnswer, addBitsRefusal, blank, isSession, openAnswer, readAnswer, readLeaves};
+ghost use Rattle.echo.specs.Session.{addAnswer, addBitsAnswer, addBitsRefusal, behindPart, blank, isSession, openAnswer, readAnswer, readLeaves};
 use super::bits::zero_bits_from;
 use super::families::admitted;
 use super::families::block_size;
@@ -41,7 +38,7 @@ pub struct Answer {
 
 // Whether so many bits would stand behind a part byte.
 fn behind_part(taken: u64, count: u64) -> bool
-    ensures { λ r. ⌜ r ≡ (not (eqb (taken % 8) 0) && not (eqb count 0)) ⌝ }
+    ensures { λ r. ⌜ r ≡ behindPart taken count ⌝ }
 {
     if taken % 8 == 0 {
         return false;

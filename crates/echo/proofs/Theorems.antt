@@ -1,5 +1,5 @@
 -- The theorems of this crate that the pages quote, each closed: what it assumes stands in its statement. Assumes nothing.
-use mathlib.Core.Path.{_≡_, refl, sym}
+use mathlib.Core.Path.{_≡_}
 use mathlib.Core.Bool.{false, true}
 use mathlib.Core.Logic.{_⊎_}
 use mathlib.Core.List.{List, [], _∷_, _++_}
@@ -64,7 +64,6 @@ use Rattle.echo.proofs.Laws.Marked as marked
 use Rattle.echo.proofs.Laws.MixedNumbers as mixed-numbers
 use Rattle.echo.proofs.Laws.Numbers as numbers-as-bytes
 use Rattle.echo.proofs.Laws.Padded as padded
-use Rattle.echo.proofs.Laws.Refusals as refusals
 use Rattle.echo.proofs.Laws.Sessions as sessions
 use Rattle.echo.proofs.Laws.SinglePipe as single-pipe
 use Rattle.echo.proofs.Laws.UpperHalfZero as upper-half-zero
@@ -279,9 +278,7 @@ pub whole-bytes-are-eight-bits-each : (mode : Mode) (h : ℕ) (salt message room
     → (digestRefusal h (length salt) (length message) (length room) ≡ digestBitsRefusal h (length salt) message (8 * length message) (length room))
     × (digestLeaves mode h salt message room ≡ digestBitsLeaves mode h salt message (8 * length message) room)
     × (addAnswer s message ≡ addBitsAnswer s message (8 * length message))
-unfolding addAnswer
-whole-bytes-are-eight-bits-each mode h salt message room s =
-    (sym (refusals.whole-refusal h (length salt) message (length room)), sym (at-once.whole-leaves mode h salt message room), refl)
+whole-bytes-are-eight-bits-each = at-once.eight-bits-each
 
 -- the last length that one block holds with its padding, and its successor; and no zero stands in the former's padding
 pub up-to-1391-bits-fit-one-block : Hold

@@ -1,5 +1,5 @@
 -- The digest at once, where nothing is refused: an opening, one piece and a reading. Assumes nothing.
-use mathlib.Core.Path.{_≡_, sym, ap, _∙_}
+use mathlib.Core.Path.{_≡_, refl, sym, ap, _∙_}
 use mathlib.Core.List.{List, [], _++_}
 use Prim.Native.Nat.{ℕ, _*_, _/_, _^_, _<_, _≤_}
 use native.Mathlib.Nat.{zero-add}
@@ -10,8 +10,8 @@ use Rattle.echo.specs.declared.session.Answer.{Answer}
 use Rattle.echo.specs.declared.session.Session.{Session}
 use Rattle.echo.specs.Bits.{bitsOf}
 use Rattle.echo.specs.Digest.{bitDigestOf, digestOf}
-use Rattle.echo.specs.Session.{addBits, addBitsAnswer, bitLimit, digestBitsLeaves, digestBitsRefusal, digestLeaves, digestRefusal, openAnswer, opened}
-use Rattle.echo.specs.Session.{readAnswer, readLeaves}
+use Rattle.echo.specs.Session.{addAnswer, addBits, addBitsAnswer, bitLimit, digestBitsLeaves, digestBitsRefusal, digestLeaves, digestRefusal}
+use Rattle.echo.specs.Session.{openAnswer, opened, readAnswer, readLeaves}
 use Rattle.echo.proofs.Laws.Bits.{whole-taken}
 use Rattle.echo.proofs.Laws.Opened.{add-nothing}
 use Rattle.echo.proofs.Laws.Pieces.{opens, reads-bits, takes-bits}
@@ -59,6 +59,15 @@ pub whole-leaves : (mode : Mode) (h : ℕ) (salt message room : List ℕ)
 unfolding digestBitsLeaves digestLeaves digestOf
 whole-leaves mode h salt message room =
     rw (whole-refusal h (length salt) message (length room), whole-taken message)
+
+-- the routines for bytes are those for bits at eight times the length
+pub eight-bits-each : (mode : Mode) (h : ℕ) (salt message room : List ℕ) (s : Session)
+    → (digestRefusal h (length salt) (length message) (length room) ≡ digestBitsRefusal h (length salt) message (8 * length message) (length room))
+    × (digestLeaves mode h salt message room ≡ digestBitsLeaves mode h salt message (8 * length message) room)
+    × (addAnswer s message ≡ addBitsAnswer s message (8 * length message))
+unfolding addAnswer
+eight-bits-each mode h salt message room s =
+    (sym (whole-refusal h (length salt) message (length room)), sym (whole-leaves mode h salt message room), refl)
 
 -- as the code has them
 module _ (mode : Mode) (h : ℕ) (salt message room : List ℕ) where

@@ -1,5 +1,5 @@
 -- What the code computes of bits: whether they are zero from a place on, and the byte with the marking bit. Assumes nothing.
-use mathlib.Core.Path.{_≡_, refl, sym, ap, ap₂, _∙_, subst}
+use mathlib.Core.Path.{_≡_, refl, sym, ap, _∙_, subst}
 use mathlib.Core.Bool.{Bool, true, false, not, _&&_}
 use mathlib.Core.List.{List}
 use Prim.Native.Nat.{ℕ, suc, _+_, _*_, _-_, _/_, _%_, _^_, _<_, _≤_}
@@ -12,8 +12,7 @@ use Rattle.aes_round.proofs.Laws.Every.{agree, below, every}
 use Rattle.echo.specs.Bits.{bitsOf, byteBits}
 use Rattle.echo.specs.Families.{either}
 use Rattle.echo.specs.Session.{allZero}
-use Rattle.echo.proofs.Laws.Bits.{bits-zero, drop-part, length-bits}
-use Rattle.echo.proofs.Laws.Zeros.{zero-append}
+use Rattle.echo.proofs.Laws.Bits.{length-bits, zero-within}
 
 -- ---- one byte, of which the first bits are in use: a test of every byte
 
@@ -59,9 +58,8 @@ module _ (bytes : List ℕ) (at : ℕ) where
     split =
         let n : at ≡ 8 * (at / 8) + at % 8 = omega arith in
         ap (λ (k : ℕ). allZero (drop k (bitsOf bytes))) n
-        ∙ ap allZero (drop-part bytes (at / 8) (at % 8) inside (omega arith))
-        ∙ zero-append (drop (at % 8) (byteBits (getD bytes (at / 8) 0))) (bitsOf (drop (suc (at / 8)) bytes))
-        ∙ ap₂ _&&_ (sym e) (bits-zero (drop (suc (at / 8)) bytes))
+        ∙ zero-within bytes (at / 8) (at % 8) inside (omega arith)
+        ∙ ap (λ (b : Bool). b && allZero (drop (suc (at / 8)) bytes)) (sym e)
 
     pub zero-not : not t ≡ true → false ≡ allZero (drop at (bitsOf bytes))
     zero-not fails = sym (split ∙ ap (λ (b : Bool). b && allZero (drop (suc (at / 8)) bytes)) (not-true t fails))

@@ -211,6 +211,14 @@ unfolding bitsOf allZero
 bits-zero [] = refl
 bits-zero (x ∷ xs) = zero-append (byteBits x) (bitsOf xs) ∙ ap₂ _&&_ (byte-zero x) (bits-zero xs)
 
+-- from a place within a byte on: the rest of that byte, and the bytes behind it
+pub zero-within : (w : List ℕ) (k r : ℕ) → k < length w → r ≤ 8
+    → allZero (drop (8 * k + r) (bitsOf w)) ≡ (allZero (drop r (byteBits (getD w k 0))) && allZero (drop (suc k) w))
+zero-within w k r inside few =
+    ap allZero (drop-part w k r inside few)
+    ∙ zero-append (drop r (byteBits (getD w k 0))) (bitsOf (drop (suc k) w))
+    ∙ ap (λ (b : Bool). allZero (drop r (byteBits (getD w k 0))) && b) (bits-zero (drop (suc k) w))
+
 -- nothing but zeros behind a part byte
 pub part-ends : (p : List ℕ) (x : ℕ) (ys : List ℕ) (k r : ℕ) → length p ≡ k → Part x r → allZero ys ≡ true
     → allZero (drop (8 * k + r) (bitsOf (p ++ x ∷ ys))) ≡ true
@@ -277,11 +285,8 @@ module _ (piece : List ℕ) (count : ℕ) (S : Sized piece count) where
           let past : length piece ≤ count / 8 = omega arith in
           ap₂ (λ (r x : ℕ). allZero (drop r (byteBits x))) e (List·getD-eq-default piece 0 past))
           (λ (l : count / 8 < length piece).
-          both (allZero (drop (count % 8) (byteBits last))) (allZero (bitsOf (drop (suc (count / 8)) piece)))
-          (sym (zero-append (drop (count % 8) (byteBits last)) (bitsOf (drop (suc (count / 8)) piece)))
-          ∙ ap allZero (sym (drop-part piece (count / 8) (count % 8) l few-bits))
-          ∙ ap (λ (n : ℕ). allZero (drop n (bitsOf piece))) count-is
-          ∙ S .clear)
+          both (allZero (drop (count % 8) (byteBits last))) (allZero (drop (suc (count / 8)) piece))
+          (sym (zero-within piece (count / 8) (count % 8) l few-bits) ∙ ap (λ (n : ℕ). allZero (drop n (bitsOf piece))) count-is ∙ S .clear)
           .0)
 
   -- behind whole bytes

@@ -21,13 +21,13 @@ use Rattle.echo.specs.Padding.{padding}
 use Rattle.echo.specs.Placed.{Placed}
 use Rattle.echo.specs.Session.{allZero, bitLimit, compressed, finalChaining, made}
 use Rattle.echo.specs.Square.{keysFrom}
-use Rattle.echo.proofs.Laws.Bits.{Part, bits-zero, drop-part, take-part}
+use Rattle.echo.proofs.Laws.Bits.{Part, take-part, zero-within}
 use Rattle.echo.proofs.Laws.Counting.{bits-mod, div-on, mod-on}
 use Rattle.echo.proofs.Laws.Families.{block-pos, sizes}
 use Rattle.echo.proofs.Laws.Joined.{first-part, second-part}
 use Rattle.echo.proofs.Laws.Padded.{ending, length-lengths, lengthsOf, packed-behind}
 use Rattle.echo.proofs.Laws.Placed.{cleared}
-use Rattle.echo.proofs.Laws.Zeros.{both, zero-append, zero-from}
+use Rattle.echo.proofs.Laws.Zeros.{both, zero-from}
 
 -- a block of b bytes whose last eighteen are the lengths e
 closed : (b : ℕ) (w e t : List ℕ) → length w ≡ 224 → 128 ≤ b → b ≤ 224 → length e ≡ 18 → Placed w (b - 18) e 18 t → take b t ≡ take (b - 18) w ++ e
@@ -274,19 +274,16 @@ module _ (mode : Mode) (h L : ℕ) (w : List ℕ) (lw : length w ≡ 224) (z : a
   few : L % 8 < 8
   few = omega arith
 
-  ended : (allZero (drop (L % 8) (byteBits (getD w at 0))) ≡ true) × (allZero (bitsOf (drop (suc at) w)) ≡ true)
+  ended : (allZero (drop (L % 8) (byteBits (getD w at 0))) ≡ true) × (allZero (drop (suc at) w) ≡ true)
   ended =
-      both (allZero (drop (L % 8) (byteBits (getD w at 0)))) (allZero (bitsOf (drop (suc at) w)))
-      (sym (zero-append (drop (L % 8) (byteBits (getD w at 0))) (bitsOf (drop (suc at) w)))
-      ∙ ap allZero (sym (drop-part w at (L % 8) within (omega (arith, few))))
-      ∙ ap (λ (n : ℕ). allZero (drop n (bitsOf w))) (sym at-place)
-      ∙ z)
+      both (allZero (drop (L % 8) (byteBits (getD w at 0)))) (allZero (drop (suc at) w))
+      (sym (zero-within w at (L % 8) within (omega (arith, few))) ∙ ap (λ (n : ℕ). allZero (drop n (bitsOf w))) (sym at-place) ∙ z)
 
   pub part-is : Part (getD w at 0) (L % 8)
   part-is = record { few = few; clear = ended .0 }
 
   pub zero-after : allZero (drop (suc at) w) ≡ true
-  zero-after = sym (bits-zero (drop (suc at) w)) ∙ ended .1
+  zero-after = ended .1
 
   -- with the padding, in bytes
   pub bytes-left : packed (take (L % (8 * blockSize mode h)) (bitsOf w) ++ padding (8 * blockSize mode h) h L)

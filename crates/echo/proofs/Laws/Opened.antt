@@ -90,10 +90,6 @@ module _ (mode : Mode) (h : ℕ) (salt : List ℕ) where
     counted : 8 * (blockSize mode h * 0 + length whole) + count % 8 ≡ count
     counted = omega (arith, mul-zero (blockSize mode h), length-take-le (count / 8) m (omega (arith, S .size)))
 
-    pub bits-taken : addBits (opened mode h salt) m count .taken ≡ count
-    unfolding stateWith
-    bits-taken = ap (λ (s : Session). s .taken) bits-state ∙ counted
-
     pub bits-length : addBits (opened mode h salt) m count .bits ≡ h
     unfolding stateWith
     bits-length = ap (λ (s : Session). s .bits) bits-state

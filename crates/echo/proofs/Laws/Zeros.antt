@@ -7,7 +7,7 @@ use native.Mathlib.Omega.{arith}
 use borrow.Author.Tests.{eqb-true}
 use lib.Dec.{eqb}
 use lib.ListN.{drop, getD, length, replicate}
-use lib.Seq.{drop-at, getD-drop}
+use lib.Seq.{getD-drop}
 use Rattle.echo.specs.Session.{allZero}
 
 -- a test that came out true came through each of its parts
@@ -34,10 +34,6 @@ zero-append (x ∷ xs) ys = by (eqb x 0) (zero-append xs ys)
     by : (t : Bool) → allZero (xs ++ ys) ≡ (allZero xs && allZero ys) → (t && allZero (xs ++ ys)) ≡ ((t && allZero xs) && allZero ys)
     by true e = e
     by false e = refl
-
--- zeros behind a list
-pub zeros-behind : (xs : List ℕ) (n k : ℕ) → length xs ≡ n → allZero (drop n (xs ++ replicate k 0)) ≡ true
-zeros-behind xs n k e = rw drop-at (zeros-are-zero k)
 
 -- from a place on, and at it
 pub zero-behind : (n : ℕ) (l : List ℕ) → allZero l ≡ true → allZero (drop n l) ≡ true

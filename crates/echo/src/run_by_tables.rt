@@ -64,15 +64,16 @@ fn sub_numbers(
 {
     let mut r = s;
     for i in 0..16 {
-        let a = r[4 * i];
-        let b = r[4 * i + 1];
-        let c = r[4 * i + 2];
-        let d = r[4 * i + 3];
+        let at = 4 * i;
+        let a = r[at];
+        let b = r[at + 1];
+        let c = r[at + 2];
+        let d = r[at + 3];
         let through = word_by_tables(t, u, v, w, [a, b, c, d], counter, first + i as u64, salt);
-        r[4 * i] = through[0];
-        r[4 * i + 1] = through[1];
-        r[4 * i + 2] = through[2];
-        r[4 * i + 3] = through[3];
+        r[at] = through[0];
+        r[at + 1] = through[1];
+        r[at + 2] = through[2];
+        r[at + 3] = through[3];
     }
     r
 }

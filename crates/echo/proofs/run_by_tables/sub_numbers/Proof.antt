@@ -16,47 +16,38 @@ abbrev μ-loop : tie.MeasureT-loop
 loop-holds : tie.Need-loop-holds Inv-loop μ-loop
 loop-holds c = (search needs, search (none-substituted, needs))
 
+mul-at : tie.Need-mul-at Inv-loop μ-loop
+mul-at c = search needs
+
 mul-a : tie.Need-mul-a Inv-loop μ-loop
 mul-a c = search needs
-
-mul-a-2 : tie.Need-mul-a-2 Inv-loop μ-loop
-mul-a-2 c = search needs
 
 array-read-a : tie.Need-array-read-a Inv-loop μ-loop
 array-read-a c = search needs
 
-mul-b : tie.Need-mul-b Inv-loop μ-loop
-mul-b c = search needs
-
 add-b : tie.Need-add-b Inv-loop μ-loop
 add-b c = search needs
 
-mul-b-2 : tie.Need-mul-b-2 Inv-loop μ-loop
-mul-b-2 c = search needs
+mul-b : tie.Need-mul-b Inv-loop μ-loop
+mul-b c = search needs
 
 array-read-b : tie.Need-array-read-b Inv-loop μ-loop
 array-read-b c = search needs
 
-mul-c : tie.Need-mul-c Inv-loop μ-loop
-mul-c c = search needs
-
 add-c : tie.Need-add-c Inv-loop μ-loop
 add-c c = search needs
 
-mul-c-2 : tie.Need-mul-c-2 Inv-loop μ-loop
-mul-c-2 c = search needs
+mul-c : tie.Need-mul-c Inv-loop μ-loop
+mul-c c = search needs
 
 array-read-c : tie.Need-array-read-c Inv-loop μ-loop
 array-read-c c = search needs
 
-mul-d : tie.Need-mul-d Inv-loop μ-loop
-mul-d c = search needs
-
 add-d : tie.Need-add-d Inv-loop μ-loop
 add-d c = search needs
 
-mul-d-2 : tie.Need-mul-d-2 Inv-loop μ-loop
-mul-d-2 c = search needs
+mul-d : tie.Need-mul-d Inv-loop μ-loop
+mul-d c = search needs
 
 array-read-d : tie.Need-array-read-d Inv-loop μ-loop
 array-read-d c = search needs
@@ -73,23 +64,17 @@ array-read-r c = search needs
 mul-r : tie.Need-mul-r Inv-loop μ-loop
 mul-r c = search needs
 
-mul-r-2 : tie.Need-mul-r-2 Inv-loop μ-loop
-mul-r-2 c = search needs
-
 array-write-r : tie.Need-array-write-r Inv-loop μ-loop
 array-write-r c = search needs
 
 array-read-r-2 : tie.Need-array-read-r-2 Inv-loop μ-loop
 array-read-r-2 c = search needs
 
-mul-r-3 : tie.Need-mul-r-3 Inv-loop μ-loop
-mul-r-3 c = search needs
-
 add-r : tie.Need-add-r Inv-loop μ-loop
 add-r c = search needs
 
-mul-r-4 : tie.Need-mul-r-4 Inv-loop μ-loop
-mul-r-4 c = search needs
+mul-r-2 : tie.Need-mul-r-2 Inv-loop μ-loop
+mul-r-2 c = search needs
 
 array-write-r-2 : tie.Need-array-write-r-2 Inv-loop μ-loop
 array-write-r-2 c = search needs
@@ -97,14 +82,11 @@ array-write-r-2 c = search needs
 array-read-r-3 : tie.Need-array-read-r-3 Inv-loop μ-loop
 array-read-r-3 c = search needs
 
-mul-r-5 : tie.Need-mul-r-5 Inv-loop μ-loop
-mul-r-5 c = search needs
-
 add-r-2 : tie.Need-add-r-2 Inv-loop μ-loop
 add-r-2 c = search needs
 
-mul-r-6 : tie.Need-mul-r-6 Inv-loop μ-loop
-mul-r-6 c = search needs
+mul-r-3 : tie.Need-mul-r-3 Inv-loop μ-loop
+mul-r-3 c = search needs
 
 array-write-r-3 : tie.Need-array-write-r-3 Inv-loop μ-loop
 array-write-r-3 c = search needs
@@ -112,14 +94,11 @@ array-write-r-3 c = search needs
 array-read-r-4 : tie.Need-array-read-r-4 Inv-loop μ-loop
 array-read-r-4 c = search needs
 
-mul-r-7 : tie.Need-mul-r-7 Inv-loop μ-loop
-mul-r-7 c = search needs
-
 add-r-3 : tie.Need-add-r-3 Inv-loop μ-loop
 add-r-3 c = search needs
 
-mul-r-8 : tie.Need-mul-r-8 Inv-loop μ-loop
-mul-r-8 c = search needs
+mul-r-4 : tie.Need-mul-r-4 Inv-loop μ-loop
+mul-r-4 c = search needs
 
 array-write-r-4 : tie.Need-array-write-r-4 Inv-loop μ-loop
 array-write-r-4 c = search needs
@@ -143,41 +122,34 @@ sub-numbers-spec =
     Inv-loop
     μ-loop
     loop-holds
+    mul-at
     mul-a
-    mul-a-2
     array-read-a
-    mul-b
     add-b
-    mul-b-2
+    mul-b
     array-read-b
-    mul-c
     add-c
-    mul-c-2
+    mul-c
     array-read-c
-    mul-d
     add-d
-    mul-d-2
+    mul-d
     array-read-d
     add-word-by-tables
     word-by-tables-requires
     array-read-r
     mul-r
-    mul-r-2
     array-write-r
     array-read-r-2
-    mul-r-3
     add-r
-    mul-r-4
+    mul-r-2
     array-write-r-2
     array-read-r-3
-    mul-r-5
     add-r-2
-    mul-r-6
+    mul-r-3
     array-write-r-3
     array-read-r-4
-    mul-r-7
     add-r-3
-    mul-r-8
+    mul-r-4
     array-write-r-4
     add-i
     loop-less

@@ -1,4 +1,4 @@
--- Ten wrong programs of must-fail/ change a definition and not the code, since the code could be made so only by a change of its shape. For each, a
+-- Six wrong programs of must-fail/ change a definition and not the code, since the code could be made so only by a change of its shape. For each, a
 -- point at which the definition and the changed one, which is written out, differ. Assumes nothing.
 use mathlib.Core.Path.{_≡_, refl, sym, ap, _∙_}
 use mathlib.Core.Bool.{Bool, _&&_, true≢false}
@@ -8,7 +8,7 @@ use native.Mathlib.Omega.{arith}
 use lib.Dec.{leb, lit<}
 use lib.ListN.{drop, getD, length, replicate, take}
 use Rattle.aes_round.specs.Bytes.{tab, xor, xorBytes}
-use Rattle.aes_round.proofs.Laws.Bytes.{getD-tab, length-tab}
+use Rattle.aes_round.proofs.Laws.Bytes.{getD-tab}
 use Rattle.aes_round.proofs.Laws.Xor.{getD-xor, xor-self, xor-twice, xor-zero-r}
 use Rattle.echo.specs.declared.mode.Mode.the-variants.{DoublePipe}
 use Rattle.echo.specs.declared.session.Session.{Session}
@@ -19,27 +19,8 @@ use Rattle.echo.specs.Numbers.{littleEndian}
 use Rattle.echo.specs.Padding.{padding}
 use Rattle.echo.specs.Refusals.{unless}
 use Rattle.echo.specs.Session.{admitted, allZero, bitLimit, blank, isSession, made, readLeaves, readRefusal, sessionDigest}
-use Rattle.echo.specs.Square.{counterKey, keysFrom, wideKey, wideKeysFrom}
-use Rattle.echo.proofs.Laws.Joined.{first-part}
+use Rattle.echo.specs.Square.{wideKey, wideKeysFrom}
 use Rattle.echo.proofs.Laws.Numbers.{wide-key-at}
-
-low-byte : (k : ℕ) → getD (counterKey k) 0 0 ≡ k / 256 ^ 0 % 256
-unfolding counterKey littleEndian
-low-byte k = first-part 8 (littleEndian 8 k) (replicate 8 0) (length-tab 8 _) 0 (lit< tt) ∙ getD-tab 8 _ 0 (lit< tt)
-
--- word 1 of round 0
-pub counter-per-aes-round-differs : keysFrom 0 (16 * 0 + 1) ≡ keysFrom 0 (32 * 0 + 1 + 1) → ⊥
-counter-per-aes-round-differs e =
-    let z : _≡_ {A = ℕ} 1 2 = sym (low-byte 1) ∙ ap (λ (l : List ℕ). getD l 0 0) e ∙ low-byte 2 in
-    omega arith
-
--- the counter behind the highest one: 0, and not the highest again
-pub counter-saturates-differs : wideKeysFrom (2 ^ 128 - 1) 1 ≡ wideKey (min (2 ^ 128 - 1 + 1) (2 ^ 128 - 1)) → ⊥
-counter-saturates-differs e =
-    let none = wide-key-at 0 0 0 refl (lit< tt) in
-    let all = wide-key-at (2 ^ 64 - 1) (2 ^ 64 - 1) (2 ^ 128 - 1) refl (lit< tt) in
-    let z : _≡_ {A = ℕ} 0 255 = ap (λ (l : List ℕ). getD l 0 0) (none ∙ e ∙ sym all) in
-    omega arith
 
 -- word 0 of round 1, where the counter began at 2^64
 pub upper-half-in-round-one-alone-differs : wideKeysFrom (2 ^ 64) 16 ≡ wideKey ((2 ^ 64 + 16) % 2 ^ (128 - min 64 (16 / 16 * 64))) → ⊥
@@ -49,21 +30,7 @@ upper-half-in-round-one-alone-differs e =
     let z : _≡_ {A = ℕ} 1 0 = ap (λ (l : List ℕ). getD l 8 0) (both ∙ e ∙ sym lower) in
     omega arith
 
--- the number 1 in two bytes
-pub most-significant-first-differs : littleEndian 2 1 ≡ tab 2 (λ i. 1 / (256 ^ 2 / 256 ^ i / 256) % 256) → ⊥
-unfolding littleEndian
-most-significant-first-differs e =
-    let z : _≡_ {A = ℕ} 1 0 = sym (getD-tab 2 (λ i. 1 / 256 ^ i % 256) 0 (lit< tt)) ∙ ap (λ (l : List ℕ). getD l 0 0) e ∙ getD-tab 2 _ 0 (lit< tt) in
-    omega arith
-
 -- a message of one bit: the last bit of its length's first byte
-pub length-in-bytes-differs : padding 1536 256 1
-    ≡ 1 ∷ (replicate (1536 - (1 + 144) % 1536 - 1) 0 ++ (bitsOf (littleEndian 2 256) ++ bitsOf (littleEndian 16 (1 / 8)))) → ⊥
-unfolding padding bitsOf byteBits littleEndian tab
-length-in-bytes-differs e =
-    let z : _≡_ {A = ℕ} 1 0 = ap (λ (l : List ℕ). getD l 1414 0) e in
-    omega arith
-
 pub length-in-whole-bytes-differs : padding 1536 256 1
     ≡ 1 ∷ (replicate (1536 - (1 + 144) % 1536 - 1) 0 ++ (bitsOf (littleEndian 2 256) ++ bitsOf (littleEndian 16 (8 * ((1 + 7) / 8))))) → ⊥
 unfolding padding bitsOf byteBits littleEndian tab

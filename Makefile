@@ -3,10 +3,11 @@
 # make bench                    times and stack of a digest, against plain, tables and the AES instruction
 # make bench BEFORE=PATH/libbahmorist.a   the same, and beside an earlier build, which that commit's tools/library made; takes objcopy
 # make trials SEED=1 CASES=1000 a longer run against the second implementation, with its own seed and number of cases
+# make wrong                    runs each wrong program, and tells the first case that shows it; after `make`, for some twenty minutes
 # make install PREFIX=/usr/local DESTDIR=   header, archive, pkg-config file and programs, as `make` built them
 # make clean                    removes what was built
 # make help                     prints this
-.PHONY: all test bench trials install clean help
+.PHONY: all test bench trials wrong install clean help
 
 # The examples: a steering table's records, its fingerprint, and the digest of "abc".
 all:
@@ -33,6 +34,9 @@ CASES = 1000
 trials:
 	tools/library
 	cargo run --quiet --release --offline --manifest-path rust/Cargo.toml -p trials -- --seed $(SEED) --cases $(CASES)
+
+wrong:
+	tools/wrong
 
 # The programs are behind tools/run, which gives them an exit status: links under their names lead to it.
 PREFIX = /usr/local

@@ -10,6 +10,8 @@ use Rattle.hmac.proofs.tag_session.TagSession.read.Reads as read
 use Rattle.hmac.proofs.tag_session.TagSession.check.Reads as check
 use Rattle.hmac.proofs.at_once.make_tag.Reads as make_tag
 use Rattle.hmac.proofs.at_once.check_tag.Reads as check_tag
+use Rattle.hmac.proofs.at_once.verify_tag.Reads as verify_tag
+use Rattle.hmac.proofs.comparison.same.Reads as same
 
 pub open-has-one-answer : (κs : _) (a : _) (r r′ : _) (s s′ : _) → opening.Post κs a r s → opening.Post κs a r′ s′ → r ≡ r′
 open-has-one-answer κs a r r′ s s′ p q = p ∙ sym q
@@ -32,3 +34,9 @@ make-tag-has-one-answer κs a r r′ s s′ p q = (p .0 ∙ sym (q .0), p .1 ∙
 
 pub check-tag-has-one-answer : (κs : _) (a : _) (r r′ : _) (s s′ : _) → check_tag.Post κs a r s → check_tag.Post κs a r′ s′ → r ≡ r′
 check-tag-has-one-answer κs a r r′ s s′ p q = p ∙ sym q
+
+pub verify-tag-has-one-answer : (κs : _) (a : _) (r r′ : _) (s s′ : _) → verify_tag.Post κs a r s → verify_tag.Post κs a r′ s′ → r ≡ r′
+verify-tag-has-one-answer κs a r r′ s s′ p q = p ∙ sym q
+
+pub same-has-one-answer : (κs : _) (a : _) (r r′ : _) (s s′ : _) → same.Post κs a r s → same.Post κs a r′ s′ → r ≡ r′
+same-has-one-answer κs a r r′ s s′ p q = p ∙ sym q

@@ -3,14 +3,14 @@
 -- reading puts the tag of the joined message at the front of the room, as making it at once does. The sessions are those that the calls hand
 -- back. Assumes nothing.
 use mathlib.Core.Path.{_≡_, refl, sym, ap, _∙_}
-use mathlib.Core.Bool.{Bool, true, false}
+use mathlib.Core.Bool.{Bool, true, false, true≢false}
 use mathlib.Core.Logic.{_↔_}
 use mathlib.Core.List.{List, [], _∷_, _++_, append-assoc, append-nil}
-use Prim.Native.Nat.{ℕ, zero, suc, _+_, _*_, _/_, _%_, _≤_}
+use Prim.Native.Nat.{ℕ, zero, suc, _+_, _*_, _/_, _%_, _<_, _≤_}
 use native.Mathlib.Omega.{arith}
 use borrow.Author.Tests.{eq-eqb, le-ltb, ltb-false}
 use lib.Dec.{ltb}
-use lib.ListN.{drop, length, length-append}
+use lib.ListN.{drop, length, length-append, replicate}
 use Rattle.echo.specs.declared.mode.Mode.the-variants.{DoublePipe}
 use Rattle.echo.specs.Pieces.{joined}
 use Rattle.echo.specs.Session.{addBytes, admitted, bitLimit, isSession, limit, sessionDigest}
@@ -19,21 +19,25 @@ use Rattle.echo.proofs.Laws.Kept.{add-counts, add-is-session, add-keeps}
 use Rattle.echo.proofs.Laws.Pieces.{digest-long, joined-lengths, joined-more, joined-none}
 use Rattle.echo.proofs.Laws.Refusals.{done}
 use Rattle.echo.proofs.Laws.Sessions.{admitted-most}
+use Rattle.hmac.specs.declared.at_once.Verdict.{Verdict}
 use Rattle.hmac.specs.declared.tag_session.Checking.{Checking}
 use Rattle.hmac.specs.declared.tag_session.TagAnswer.{TagAnswer}
 use Rattle.hmac.specs.declared.tag_session.TagSession.{TagSession}
 use Rattle.hmac.specs.DoublePipe.{blockSize, digestOf}
 use Rattle.hmac.specs.Hmac.{keyBlock, tagOf}
-use Rattle.hmac.specs.Routines.{checkAnswer, checkRefusal, makeLeaves, makeRefusal}
+use Rattle.hmac.specs.Routines.{checkAnswer, checkRefusal, makeLeaves, makeRefusal, verifyRefusal}
 use Rattle.hmac.specs.Same.{same}
 use Rattle.hmac.specs.TagPieces.{addAllTag}
 use Rattle.hmac.specs.TagSession.{addTagAnswer, addTagBytes, addTagRefusal, checkTagAnswer, isTagSession, openTagAnswer, openedTag}
 use Rattle.hmac.specs.TagSession.{closedBy, readTagAnswer, readTagLeaves, readTagRefusal, sessionTag}
+use Rattle.hmac.proofs.ARefusalChangesNothing.{a-refused-check-at-once-says-no}
 use Rattle.hmac.proofs.Laws.AtOnce.{nothing-added}
+use Rattle.hmac.proofs.Laws.Keys.{different-blocks, its-digest, one-block-one-tag, zeros-behind}
 use Rattle.hmac.proofs.Laws.KeyBlock.{length-with-zeros}
 use Rattle.hmac.proofs.Laws.Same.{same-exactly}
 use Rattle.hmac.proofs.Laws.TagSessions.{TagFits, fits-tag, tag-fits}
 use Rattle.hmac.proofs.Laws.Texts.{checks-tag, opens-tag, reads-tag, takes-tag}
+use Rattle.hmac.proofs.Laws.Verified.{verify-refused, verify-right, verify-wrong}
 
 -- K0 is a block, since a digest is no longer than one
 pub the-key-block-is-a-block : (h : ℕ) (salt key : List ℕ) → admitted h ≡ true → length (keyBlock (digestOf h salt) (blockSize h) key) ≡ blockSize h
@@ -46,6 +50,28 @@ the-key-block-is-a-block h salt key a = by (ltb (blockSize h) (length key)) refl
         let most = admitted-most DoublePipe h salt true (sym a) refl in
         rw p (length-with-zeros (blockSize h) (digestOf h salt key) (omega (arith, digest-long DoublePipe h salt a key, most)))
     by false p = rw p (length-with-zeros (blockSize h) key (ltb-false (blockSize h) (length key) p))
+
+-- ---- keys that differ and have the same tags, and keys that have not
+
+module _ (h : ℕ) (salt : List ℕ) where
+  abbrev K0 : List ℕ → List ℕ
+  K0 key = keyBlock (digestOf h salt) (blockSize h) key
+
+  pub keys-with-one-block-have-the-same-tags : (key key′ text : List ℕ) → K0 key ≡ K0 key′ → tagOf h salt key text ≡ tagOf h salt key′ text
+  unfolding tagOf
+  keys-with-one-block-have-the-same-tags key key′ text e = one-block-one-tag (digestOf h salt) (blockSize h) key key′ text e
+
+  pub zeros-behind-a-key-change-nothing : (key : List ℕ) (n : ℕ) → length key + n ≤ blockSize h → K0 (key ++ replicate n 0) ≡ K0 key
+  zeros-behind-a-key-change-nothing key n l = zeros-behind (digestOf h salt) (blockSize h) key n l
+
+  pub a-long-key-is-its-digest : (key : List ℕ) → admitted h ≡ true → blockSize h < length key → K0 (digestOf h salt key) ≡ K0 key
+  a-long-key-is-its-digest key a l =
+      let S = double-block h in
+      let most = admitted-most DoublePipe h salt true (sym a) refl in
+      its-digest (digestOf h salt) (blockSize h) key l (omega (arith, digest-long DoublePipe h salt a key, most))
+
+  pub keys-of-one-length-have-different-blocks : (key key′ : List ℕ) → length key ≡ length key′ → length key ≤ blockSize h → K0 key ≡ K0 key′ → key ≡ key′
+  keys-of-one-length-have-different-blocks key key′ e l same = different-blocks (digestOf h salt) (blockSize h) key key′ e l same
 
 -- any record, a tag session or none
 pub an-empty-piece-changes-nothing : (t : TagSession) → addTagAnswer t [] .session ≡ t
@@ -144,6 +170,35 @@ module _ (h : ℕ) (salt key : List ℕ) (a : admitted h ≡ true) (l : length s
         let says = done _ (same (tagOf h salt key message) tag) false checked-number in
         let S = same-exactly (tagOf h salt key message) tag in
         (checked-number, (λ y. sym (S .0 (sym says ∙ y)), λ e. says ∙ S .1 (sym e)))
+
+-- ---- verifying, on any input
+
+module _ (h : ℕ) (salt key message tag : List ℕ) where
+  abbrev verdict : Verdict
+  verdict = checkAnswer h salt key message tag
+
+  abbrev verified : ℕ
+  verified = verifyRefusal h salt key message tag
+
+  pub verified-exactly-where-a-check-says-yes : (verified ≡ 0) ↔ (verdict .yes ≡ true)
+  unfolding checkAnswer
+  verified-exactly-where-a-check-says-yes = by (verdict .refusal) (verdict .yes) refl refl
+    where
+      by : (n : ℕ) (t : Bool) → verdict .refusal ≡ n → verdict .yes ≡ t → (verified ≡ 0) ↔ (verdict .yes ≡ true)
+      by zero true z y = (λ _. y, λ _. sym (verify-right h salt key message tag verdict refl z y))
+      by zero false z y = (
+        λ v. absurd (omega (arith, v, verify-wrong h salt key message tag verdict refl z y)),
+        λ x. absurd (true≢false (sym x ∙ y)),
+      )
+      by (suc k) t z y =
+          let r : verified ≡ suc k = sym (verify-refused h salt key message tag verdict refl (λ w. omega (arith, w, z))) ∙ z in
+          (λ v. absurd (omega (arith, v, r)), λ x. absurd (true≢false (sym x ∙ a-refused-check-at-once-says-no k h salt key message tag z)))
+
+  pub a-refused-check-is-not-verified : (k : ℕ) → verdict .refusal ≡ suc k → verified ≡ suc k
+  a-refused-check-is-not-verified k z = sym (verify-refused h salt key message tag verdict refl (λ w. omega (arith, w, z))) ∙ z
+
+  pub any-other-tag-is-19 : verdict .refusal ≡ 0 → verdict .yes ≡ false → verified ≡ 19
+  any-other-tag-is-19 z y = sym (verify-wrong h salt key message tag verdict refl z y)
 
 -- ---- any record
 

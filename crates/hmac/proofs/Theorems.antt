@@ -3,15 +3,15 @@ use mathlib.Core.Path.{_≡_}
 use mathlib.Core.Bool.{false, true}
 use mathlib.Core.Logic.{_↔_}
 use mathlib.Core.List.{List, [], _∷_, _++_}
-use Prim.Native.Nat.{ℕ, suc, _+_, _*_, _/_, _%_, _≤_}
-use lib.ListN.{drop, length}
+use Prim.Native.Nat.{ℕ, suc, _+_, _*_, _/_, _%_, _<_, _≤_}
+use lib.ListN.{drop, length, replicate}
 use Rattle.echo.specs.declared.mode.Mode.the-variants.{DoublePipe}
 use Rattle.echo.specs.Pieces.{joined}
 use Rattle.echo.specs.Session.{addBytes, admitted, bitLimit, isSession, limit, sessionDigest}
 use Rattle.hmac.specs.declared.tag_session.TagSession.{TagSession}
 use Rattle.hmac.specs.DoublePipe.{blockSize, digestOf}
 use Rattle.hmac.specs.Hmac.{keyBlock, tagOf}
-use Rattle.hmac.specs.Routines.{checkAnswer, checkRefusal, makeLeaves, makeRefusal}
+use Rattle.hmac.specs.Routines.{checkAnswer, checkRefusal, makeLeaves, makeRefusal, verifyRefusal}
 use Rattle.hmac.specs.TagPieces.{addAllTag}
 use Rattle.hmac.specs.TagSession.{
   addTagAnswer,
@@ -133,6 +133,49 @@ pub at-once-a-check-says-yes-exactly-for-the-tag : (h : ℕ) (salt key message t
     → (checkAnswer h salt key message tag .refusal ≡ 0)
     × ((checkAnswer h salt key message tag .yes ≡ true) ↔ (tag ≡ tagOf h salt key message))
 at-once-a-check-says-yes-exactly-for-the-tag h salt key message x a l k f = tag.at-once-a-check-says-yes-exactly-for-the-tag h salt key a l k message f x
+
+-- ---- verifying
+
+pub a-tag-is-verified-exactly-where-a-check-says-yes : (h : ℕ) (salt key message tag : List ℕ)
+    → (verifyRefusal h salt key message tag ≡ 0) ↔ (checkAnswer h salt key message tag .yes ≡ true)
+a-tag-is-verified-exactly-where-a-check-says-yes = tag.verified-exactly-where-a-check-says-yes
+
+-- the check's refusal, whose number is k + 1, is that of verifying
+pub what-a-check-refuses-is-not-verified : (k h : ℕ) (salt key message tag : List ℕ)
+    → checkAnswer h salt key message tag .refusal ≡ suc k
+    → verifyRefusal h salt key message tag ≡ suc k
+what-a-check-refuses-is-not-verified k h salt key message x e = tag.a-refused-check-is-not-verified h salt key message x k e
+
+pub any-other-tag-is-refused-by-19 : (h : ℕ) (salt key message tag : List ℕ)
+    → checkAnswer h salt key message tag .refusal ≡ 0
+    → checkAnswer h salt key message tag .yes ≡ false
+    → verifyRefusal h salt key message tag ≡ 19
+any-other-tag-is-refused-by-19 = tag.any-other-tag-is-19
+
+-- ---- keys
+
+pub keys-with-one-block-have-the-same-tags : (h : ℕ) (salt key key′ text : List ℕ)
+    → keyBlock (digestOf h salt) (blockSize h) key ≡ keyBlock (digestOf h salt) (blockSize h) key′
+    → tagOf h salt key text ≡ tagOf h salt key′ text
+keys-with-one-block-have-the-same-tags = tag.keys-with-one-block-have-the-same-tags
+
+pub zeros-behind-a-key-change-nothing : (h : ℕ) (salt key : List ℕ) (n : ℕ)
+    → length key + n ≤ blockSize h
+    → keyBlock (digestOf h salt) (blockSize h) (key ++ replicate n 0) ≡ keyBlock (digestOf h salt) (blockSize h) key
+zeros-behind-a-key-change-nothing = tag.zeros-behind-a-key-change-nothing
+
+pub a-long-key-is-its-digest : (h : ℕ) (salt key : List ℕ)
+    → admitted h ≡ true
+    → blockSize h < length key
+    → keyBlock (digestOf h salt) (blockSize h) (digestOf h salt key) ≡ keyBlock (digestOf h salt) (blockSize h) key
+a-long-key-is-its-digest = tag.a-long-key-is-its-digest
+
+pub keys-of-one-length-have-different-blocks : (h : ℕ) (salt key key′ : List ℕ)
+    → length key ≡ length key′
+    → length key ≤ blockSize h
+    → keyBlock (digestOf h salt) (blockSize h) key ≡ keyBlock (digestOf h salt) (blockSize h) key′
+    → key ≡ key′
+keys-of-one-length-have-different-blocks = tag.keys-of-one-length-have-different-blocks
 
 -- K0 is one block
 pub the-key-block-is-a-block : (h : ℕ) (salt key : List ℕ)

@@ -1,4 +1,4 @@
--- What making and checking a tag at once answer and leave behind, on every input. Assumes nothing.
+-- What making, checking and verifying a tag at once answer and leave behind, on every input. Assumes nothing.
 use mathlib.Core.Bool.{Bool, false, not, _||_}
 use mathlib.Core.List.{List, [], _∷_, _++_}
 use Prim.Native.Nat.{ℕ, _+_, _/_}
@@ -38,3 +38,13 @@ unfoldable pub checkAnswer : ℕ → List ℕ → List ℕ → List ℕ → List
 checkAnswer h salt key message tag =
     let refusal = checkRefusal h (length salt) (length key) (length message) in
     record { refusal = refusal; yes = unless refusal (same (tagOf h salt key message) tag) false }
+
+-- the check's refusals, and then 19 where the tag is not the message's
+unfoldable pub verifyRefusal : ℕ → List ℕ → List ℕ → List ℕ → List ℕ → ℕ
+verifyRefusal h salt key message tag =
+    firstOf
+    ((1 when not (admitted h))
+    ∷ (2 when noSalt (length salt))
+    ∷ (4 when tooLong h (length key) (length message))
+    ∷ (19 when not (same (tagOf h salt key message) tag))
+    ∷ [])

@@ -1,7 +1,7 @@
 // Tags of whole messages.
 ghost use mathlib.Core.Path.{_≡_};
 ghost use lib.ListN.{length};
-ghost use Rattle.hmac.specs.Routines.{checkAnswer, makeLeaves, makeRefusal};
+ghost use Rattle.hmac.specs.Routines.{checkAnswer, makeLeaves, makeRefusal, verifyRefusal};
 use super::tag_session::TagSession;
 
 // What a check at once answers: a refusal number, 0 for none, and whether the tag is right.
@@ -29,7 +29,8 @@ pub fn make_tag(bits: u64, salt: &[u8], key: &[u8], message: &[u8], out: &mut [u
     reading.refusal
 }
 
-// Whether the tag is that of the message, all of it and nothing else; or no, with a refusal by 1, 2 or 4.
+// Whether the tag is that of the message, all of it and nothing else; or no, with a refusal by 1, 2 or 4. A refusal of 0 does not say that the
+// tag is right: `yes` does.
 pub fn check_tag(bits: u64, salt: &[u8], key: &[u8], message: &[u8], tag: &[u8]) -> Verdict
     ensures { λ r. ⌜ r ≡ checkAnswer bits (now (salt .entry)) (now (key .entry)) (now (message .entry)) (now (tag .entry)) ⌝ }
 {
@@ -54,4 +55,16 @@ pub fn check_tag(bits: u64, salt: &[u8], key: &[u8], message: &[u8], tag: &[u8])
         refusal: checking.refusal,
         yes: checking.yes,
     }
+}
+
+// 0 where the tag is that of the message, all of it and nothing else, and there alone; or a refusal by 1, 2 or 4, or by 19 for any other tag.
+pub fn verify_tag(bits: u64, salt: &[u8], key: &[u8], message: &[u8], tag: &[u8]) -> u8
+    ensures { λ r. ⌜ r ≡ verifyRefusal bits (now (salt .entry)) (now (key .entry)) (now (message .entry)) (now (tag .entry)) ⌝ }
+{
+    let verdict = check_tag(bits, salt, key, message, tag);
+    let refused = verdict.refusal;
+    if refused != 0 {
+        return refused;
+    }
+    if verdict.yes { 0 } else { 19 }
 }

@@ -3,11 +3,11 @@ ghost use mathlib.Core.Bool.{true};
 ghost use mathlib.Core.Path.{_≡_};
 ghost use lib.ListN.{length};
 ghost use Rattle.hmac.specs.TagSession.{addTagAnswer, checkTagAnswer, closedBy, countsFit, isTagSession, openTagAnswer, readTagAnswer, readTagLeaves, refusedTag};
+use super::comparison::same;
 use super::double_pipe::is_double_pipe;
 use super::key_block::block_size;
 use super::key_block::key_block;
 use super::key_block::keyed;
-use super::same::same;
 use echo::Mode;
 use echo::Session;
 

@@ -3,7 +3,7 @@ ghost use mathlib.Core.Path.{_≡_};
 ghost use Rattle.hmac.specs.Same.{same as Same·same};
 
 // Looks at every byte whatever the first ones are, where the lengths are equal.
-pub(crate) fn same(a: &[u8], b: &[u8]) -> bool
+pub fn same(a: &[u8], b: &[u8]) -> bool
     ensures { λ r. ⌜ r ≡ Same·same (now (a .entry)) (now (b .entry)) ⌝ }
 {
     let n = a.len();

@@ -4,8 +4,8 @@ use Prim.Native.Nat.{_-_, _≤_}
 use lib.ListN.{length}
 use borrow.Author.Needs.{needs}
 use Rattle.hmac.proofs.Laws.Same.{differingBits, more-bits, no-bits, other-length, same-by-bits}
-use Rattle.hmac.proofs.same.same.Statement.{statement}
-use Rattle.hmac.proofs.same.same.Tie as tie
+use Rattle.hmac.proofs.comparison.same.Statement.{statement}
+use Rattle.hmac.proofs.comparison.same.Tie as tie
 
 abbrev Inv-loop : tie.InvT-loop
 Inv-loop a b n differing₀ i₀ differing i = (i ≤ n) × (n ≡ length a) × (length b ≡ n) × (differing ≡ differingBits a b i)

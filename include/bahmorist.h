@@ -18,10 +18,23 @@
  *
  * How long a call takes depends on the data, keys included: the substitution is in tables, and which entries are read depends on what is
  * worked on. So the tag functions are not for a node on which an attacker can run code beside them or measure how long they take. Nothing is
- * erased: what was worked on, keys included, stays on the stack until something else is written there.
+ * erased: what was worked on stays on the stack until something else is written there: parts of a message or a key, inner chaining values, and after
+ * bahmorist_hmac_verify and bahmorist_hmac_check the right tag, of a forged message too. A caller that minds wipes as much stack as a call has
+ * taken, by a function that it calls next, from where it made the call; no compiler may take it apart or leave it out:
  *
- * Each function answers 0, or the number that it refuses by (enum bahmorist_refusal). Where several apply the lowest is given, but between 9
- * and 10 that of the record nearer the table's front. A function that refuses writes to no buffer; bahmorist_fingerprint writes *place and
+ *     __attribute__((noinline)) static void wipe_stack(void)
+ *     {
+ *         volatile uint8_t room[BAHMORIST_MOST_STACK];
+ *
+ *         for (size_t i = 0; i < sizeof room; i++) {
+ *             room[i] = 0;
+ *         }
+ *     }
+ *
+ * Registers, and what a compiler has copied of the caller's own, are not wiped by that.
+ *
+ * Each function but bahmorist_same and bahmorist_version answers 0, or the number that it refuses by (enum bahmorist_refusal), which
+ * bahmorist_refusal_text says in words. Where several apply the lowest is given, but between 9 and 10 that of the record nearer the table's front. A function that refuses writes to no buffer; bahmorist_fingerprint writes *place and
  * bahmorist_hmac_check writes *yes even then. What stands in a buffer after a refusal is no digest and no tag, so a compiler that can warns where
  * an answer is not looked at.
  *
@@ -34,8 +47,8 @@
 #include <stddef.h>
 #include <stdint.h>
 
-#define BAHMORIST_VERSION "0.7.0"
-#define BAHMORIST_VERSION_NUMBER 700 /* 10,000 times the first part, 100 times the second and the third, added up */
+#define BAHMORIST_VERSION "0.8.0"
+#define BAHMORIST_VERSION_NUMBER 800 /* 10,000 times the first part, 100 times the second and the third, added up */
 
 #define BAHMORIST_SALT_BYTES 16
 #define BAHMORIST_SQUARE_BYTES 256
@@ -43,8 +56,11 @@
 #define BAHMORIST_MOST_DIGEST_BYTES 64
 #define BAHMORIST_MOST_TABLE_BYTES 4096
 
+/* What is wiped after a call: more than any takes. bahmorist_hmac_check takes the most, 15,472 bytes in the archive for x86-64. */
+#define BAHMORIST_MOST_STACK 16384
+
 /* Why a call was refused. No function here takes a session, so that 3 and 16, which are for those that do, are left out. 11 is unused and stays
- * so, and 12 to 15 are not in use. */
+ * so, and 12 to 15 and 18 are not in use. */
 enum bahmorist_refusal {
     BAHMORIST_DONE = 0,
     BAHMORIST_REFUSED_DIGEST_LENGTH = 1, /* the digest length is not a multiple of 8 from 128 to 512 */
@@ -60,7 +76,8 @@ enum bahmorist_refusal {
     BAHMORIST_REFUSED_TABLE = 8,         /* the table is over 4,096 bytes */
     BAHMORIST_REFUSED_KIND = 9,          /* unknown kind byte in the table */
     BAHMORIST_REFUSED_CUT_SHORT = 10,    /* record of the table cut short */
-    BAHMORIST_REFUSED_SET_BITS = 17      /* a bit of the message's last byte is set behind the last one that is used */
+    BAHMORIST_REFUSED_SET_BITS = 17,     /* a bit of the message's last byte is set behind the last one that is used */
+    BAHMORIST_REFUSED_TAG = 19           /* the tag is not the message's, all of it and nothing else; from bahmorist_hmac_verify alone */
 };
 
 /* How long chaining value and block are, in bytes, for digests up to 256 bits and above: with 8 rounds and with 10. */
@@ -152,19 +169,69 @@ BAHMORIST_LOOK_AT uint8_t bahmorist_fingerprint(const uint8_t *salt, size_t salt
                                                 size_t out_len, uint64_t *place);
 
 /* Puts the tag of the message under the key, bits / 8 bytes, at the front of out; bytes behind it stay. It is HMAC by FIPS 198-1 over the ECHO
- * digest of so many bits under the salt, in double-pipe, whose blocks are 192 bytes up to 256 bits and 128 above. A key may have any length.
- * Refuses by 1, 2, 4 or 5. */
+ * digest of so many bits under the salt, in double-pipe, whose blocks are 192 bytes up to 256 bits and 128 above. Refuses by 1, 2, 4 or 5.
+ *
+ * A key may have any length. An empty one is taken, and its tags are no secret: anyone can make them. Keys that differ may have the same tags: a key
+ * and the same with zero bytes behind it, up to one block; and a key longer than a block and its digest. So let the keys of a product have one
+ * length, up to a block: then different keys go into a tag as different blocks. */
 BAHMORIST_LOOK_AT uint8_t bahmorist_hmac(uint64_t bits, const uint8_t *salt, size_t salt_len, const uint8_t *key, size_t key_len,
                                          const uint8_t *message, size_t message_len, uint8_t *out, size_t out_len);
 
-/* Checks a tag: *yes becomes 1 where tag is all bits / 8 bytes of the message's tag under the key and nothing else, and else 0; a tag of another
- * length gets 0. Where the length is right, every byte of the tag is looked at, whatever the first ones are. Refuses by 1, 2 or 4, and *yes
- * is 0 then. yes is not NULL, and is written on every call. */
+/* Verifies a tag: the answer is 0 where tag is all bits / 8 bytes of the message's tag under the key and nothing else, and there alone. Any other
+ * tag, of whatever length, is refused by 19. Where the length is right, every byte of the tag is looked at, whatever the first ones are. Refuses
+ * by 1, 2, 4 or 19. */
+BAHMORIST_LOOK_AT uint8_t bahmorist_hmac_verify(uint64_t bits, const uint8_t *salt, size_t salt_len, const uint8_t *key, size_t key_len,
+                                                const uint8_t *message, size_t message_len, const uint8_t *tag, size_t tag_len);
+
+/* AN ANSWER OF 0 DOES NOT SAY THAT THE TAG IS RIGHT, only that there is an answer in *yes: a caller that looks at the answer alone accepts every
+ * forged tag. bahmorist_hmac_verify above has no such trap.
+ *
+ * Checks a tag: *yes becomes 1 where bahmorist_hmac_verify answers 0, and else 0. Refuses by 1, 2 or 4, and *yes is 0 then. yes is not NULL, and
+ * is written on every call. */
 BAHMORIST_LOOK_AT uint8_t bahmorist_hmac_check(uint64_t bits, const uint8_t *salt, size_t salt_len, const uint8_t *key, size_t key_len,
                                                const uint8_t *message, size_t message_len, const uint8_t *tag, size_t tag_len, uint8_t *yes);
+
+/* 1 where the two strings of bytes are the same, and else 0: yes or no, and no refusal. Where their lengths are equal every byte is looked at,
+ * whatever the first ones are: for a tag that a protocol cuts, of which memcmp would tell by its time how many bytes are right. */
+BAHMORIST_LOOK_AT uint8_t bahmorist_same(const uint8_t *a, size_t a_len, const uint8_t *b, size_t b_len);
+
+/* The version of the archive that is linked, as BAHMORIST_VERSION_NUMBER is that of this header. */
+BAHMORIST_LOOK_AT uint32_t bahmorist_version(void);
 
 #ifdef __cplusplus
 }
 #endif
+
+/* `inline` where the language has it. */
+#if defined(__cplusplus) || (defined(__STDC_VERSION__) && __STDC_VERSION__ >= 199901L)
+#define BAHMORIST_INLINE static inline
+#elif defined(__GNUC__)
+#define BAHMORIST_INLINE static __inline__
+#else
+#define BAHMORIST_INLINE static
+#endif
+
+/* What an answer says, in words; never NULL. 3 and 16 come from the library's sessions, which have no C function yet. */
+BAHMORIST_INLINE const char *bahmorist_refusal_text(uint8_t number)
+{
+    switch (number) {
+    case 0: return "done";
+    case 1: return "the digest length is not a multiple of 8 from 128 to 512";
+    case 2: return "the salt is not 16 bytes";
+    case 3: return "the record is no session";
+    case 4: return "the message, or a key, or key block and message together, is over 2^64 - 161 bits";
+    case 5: return "the output room is too small";
+    case 6:
+        return "no mode, sizes that are not the mode's, no square, a round count other than 8 and 10, or bytes that are not those of the bits";
+    case 7: return "the starting counter is above 2^64 - 161";
+    case 8: return "the table is over 4096 bytes";
+    case 9: return "unknown kind byte";
+    case 10: return "record cut short";
+    case 16: return "a piece that is not empty follows a part byte";
+    case 17: return "a bit is set behind the last one of the message";
+    case 19: return "the tag is not the message's";
+    default: return "the number of no refusal";
+    }
+}
 
 #endif

@@ -15,7 +15,10 @@ use Rattle.bahmorist.proofs.bahmorist_compress_in.Reads as compressing
 use Rattle.bahmorist.proofs.bahmorist_compress_wide.Reads as compressing_wide
 use Rattle.bahmorist.proofs.bahmorist_fingerprint.Reads as bahmorist_fingerprint
 use Rattle.bahmorist.proofs.bahmorist_hmac.Reads as bahmorist_hmac
+use Rattle.bahmorist.proofs.bahmorist_hmac_verify.Reads as bahmorist_hmac_verify
 use Rattle.bahmorist.proofs.bahmorist_hmac_check.Reads as bahmorist_hmac_check
+use Rattle.bahmorist.proofs.bahmorist_same.Reads as bahmorist_same
+use Rattle.bahmorist.proofs.bahmorist_version.Reads as bahmorist_version
 
 pub bahmorist-digest-has-one-answer : (κs : _) (a : _) (r r′ : _) (s s′ : _) → bahmorist_digest.Post κs a r s → bahmorist_digest.Post κs a r′ s′
     → (r ≡ r′) × (now (s .1 .1 .1 .0) ≡ now (s′ .1 .1 .1 .0))
@@ -68,3 +71,13 @@ bahmorist-hmac-has-one-answer κs a r r′ s s′ p q = (p .0 ∙ sym (q .0), p 
 pub bahmorist-hmac-check-has-one-answer : (κs : _) (a : _) (r r′ : _) (s s′ : _) → bahmorist_hmac_check.Post κs a r s → bahmorist_hmac_check.Post κs a r′ s′
     → (r ≡ r′) × (now (s .1 .1 .1 .1 .1 .0) ≡ now (s′ .1 .1 .1 .1 .1 .0))
 bahmorist-hmac-check-has-one-answer κs a r r′ s s′ p q = (p .0 ∙ sym (q .0), p .1 ∙ sym (q .1))
+
+pub bahmorist-hmac-verify-has-one-answer : (κs : _) (a : _) (r r′ : _) (s s′ : _) → bahmorist_hmac_verify.Post κs a r s → bahmorist_hmac_verify.Post κs a r′ s′
+    → r ≡ r′
+bahmorist-hmac-verify-has-one-answer κs a r r′ s s′ p q = p ∙ sym q
+
+pub bahmorist-same-has-one-answer : (κs : _) (a : _) (r r′ : _) (s s′ : _) → bahmorist_same.Post κs a r s → bahmorist_same.Post κs a r′ s′ → r ≡ r′
+bahmorist-same-has-one-answer κs a r r′ s s′ p q = p ∙ sym q
+
+pub bahmorist-version-has-one-answer : (κs : _) (a : _) (r r′ : _) (s s′ : _) → bahmorist_version.Post κs a r s → bahmorist_version.Post κs a r′ s′ → r ≡ r′
+bahmorist-version-has-one-answer κs a r r′ s s′ p q = p ∙ sym q

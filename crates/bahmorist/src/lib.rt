@@ -1,4 +1,4 @@
-// The library as C and Rust see it: include/bahmorist.h declares these functions. A slice is a pointer and a length there. Each answers as
+// The library as C and Rust see it: include/bahmorist.h declares these functions. A slice is a pointer and a length there. Each but the last answers as
 // the routine of a layer below that it calls, and so its contract is that routine's; those that end in `_in`, `bahmorist_digest_bits` and
 // `bahmorist_compress_wide` take a mode as a number, and refuse a number that is no mode's by 6. Those that end in `_wide` take a counter of 128 bits by its halves.
 mod modes;
@@ -9,10 +9,11 @@ ghost use Rattle.echo.specs.declared.mode.Mode.the-variants.{DoublePipe};
 ghost use Rattle.echo.specs.Numbers.{halves};
 ghost use Rattle.echo.specs.Routines.{compressLeaves, compressRefusal, roundsBackLeave, roundsBackWideLeave, roundsLeave, roundsRefusal, roundsWideLeave, roundsWideRefusal};
 ghost use Rattle.echo.specs.Session.{digestLeaves, digestRefusal};
-ghost use Rattle.hmac.specs.Routines.{checkAnswer, makeLeaves, makeRefusal};
+ghost use Rattle.hmac.specs.Routines.{checkAnswer, makeLeaves, makeRefusal, verifyRefusal};
+ghost use Rattle.hmac.specs.Same.{same};
 ghost use Rattle.steering.specs.Fingerprint.{fingerprintAnswer, fingerprintLeaves};
 ghost use Rattle.steering.specs.Parsing.{parse};
-ghost use Rattle.bahmorist.specs.Answers.{numberOf};
+ghost use Rattle.bahmorist.specs.Answers.{numberOf, versionNumber};
 ghost use Rattle.bahmorist.specs.Modes.{compressInLeaves, compressInRefusal, compressWideInLeaves, compressWideInRefusal, digestBitsInLeaves, digestBitsInRefusal, digestInLeaves, digestInRefusal};
 use echo::Mode;
 use modes::mode_of;
@@ -204,6 +205,20 @@ pub extern "C" fn bahmorist_hmac(
     hmac::make_tag(bits, salt, key, message, out)
 }
 
+// 0 where a tag is that of a message under a key, and there alone; or a refusal by 1, 2 or 4, or by 19 for any other tag.
+#[no_mangle]
+pub extern "C" fn bahmorist_hmac_verify(
+    bits: u64,
+    salt: &[u8],
+    key: &[u8],
+    message: &[u8],
+    tag: &[u8],
+) -> u8
+    ensures { λ r. ⌜ r ≡ verifyRefusal bits (now (salt .entry)) (now (key .entry)) (now (message .entry)) (now (tag .entry)) ⌝ }
+{
+    hmac::verify_tag(bits, salt, key, message, tag)
+}
+
 // Whether a tag is that of a message under a key, and 0; or a refusal by 1, 2 or 4. `yes` is written on every call: 1 for yes, and 0 for no
 // and with a refusal.
 #[no_mangle]
@@ -221,6 +236,22 @@ pub extern "C" fn bahmorist_hmac_check(
     let verdict = hmac::check_tag(bits, salt, key, message, tag);
     *yes = number_of(verdict.yes);
     verdict.refusal
+}
+
+// 1 where two strings of bytes are the same, and else 0.
+#[no_mangle]
+pub extern "C" fn bahmorist_same(a: &[u8], b: &[u8]) -> u8
+    ensures { λ r. ⌜ r ≡ numberOf (same (now (a .entry)) (now (b .entry))) ⌝ }
+{
+    number_of(hmac::same(a, b))
+}
+
+// The version of the library as one number.
+#[no_mangle]
+pub extern "C" fn bahmorist_version() -> u32
+    ensures { λ r. ⌜ r ≡ versionNumber ⌝ }
+{
+    800
 }
 
 fn number_of(says: bool) -> u8

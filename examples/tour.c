@@ -1,4 +1,4 @@
-/* Calls the other four functions: rounds forward and backward, a compression, and the fingerprint of a table.
+/* Rounds forward and backward, a compression, and the fingerprint of a table. The other examples have the digests, counters and tags.
  *
  *     cc -std=c99 -I include examples/tour.c target/native/libbahmorist.a -o target/tour
  *     target/tour <crates/fingerprint_table/stdin

@@ -1,21 +1,31 @@
-//! Links the proved library for the target that is built for: the archive that
-//! `tools/library` makes for this machine, or, on another one, the kit's own for
-//! x86-64 Linux.
+//! Links the proved library for the target that is built for: the archive in the
+//! folder that `BAHMORIST_LIB_DIR` names, whatever the target is; or, without that, the
+//! one that `tools/library` makes for this machine, or, on another one, the kit's own
+//! for x86-64 Linux.
 
 use std::env;
 use std::path::{Path, PathBuf};
 
+/// The variable that names the archive's folder.
+const NAMED: &str = "BAHMORIST_LIB_DIR";
+
 fn main() {
+    println!("cargo::rerun-if-env-changed={NAMED}");
     let package = variable("CARGO_MANIFEST_DIR");
-    let folder = match folder() {
-        Ok(folder) => Path::new(&package).join("../..").join(folder),
-        Err(wrong) => return println!("cargo::error={wrong}"),
+    let folder = match env::var_os(NAMED) {
+        Some(folder) => PathBuf::from(folder),
+        None => match folder() {
+            Ok(folder) => Path::new(&package).join("../..").join(folder),
+            Err(wrong) => return println!("cargo::error={wrong}; or name a folder by {NAMED}"),
+        },
     };
     let archive = folder.join("libbahmorist.a");
     println!("cargo::rerun-if-changed={}", archive.display());
     if !archive.exists() {
         let archive = archive.display();
-        return println!("cargo::error={archive} is missing: run tools/library first");
+        return println!(
+            "cargo::error={archive} is missing: run tools/library first, or name its folder by {NAMED}"
+        );
     }
     println!("cargo::rustc-link-search=native={}", folder.display());
     println!("cargo::rustc-link-lib=static=bahmorist");

@@ -77,6 +77,22 @@ extern "C" {
         yes: *mut u8,
     ) -> u8;
 
+    pub fn bahmorist_hmac_verify(
+        bits: u64,
+        salt: *const u8,
+        salt_len: usize,
+        key: *const u8,
+        key_len: usize,
+        message: *const u8,
+        message_len: usize,
+        tag: *const u8,
+        tag_len: usize,
+    ) -> u8;
+
+    pub fn bahmorist_same(a: *const u8, a_len: usize, b: *const u8, b_len: usize) -> u8;
+
+    pub fn bahmorist_version() -> u32;
+
     pub fn bahmorist_rounds(
         square: *mut u8,
         square_len: usize,

@@ -7,9 +7,10 @@
 //! is refused writes nothing. Nothing is allocated and nothing is kept between
 //! calls.
 //!
-//! The library is linked from `target/native`, where `tools/library` puts it, or,
-//! for x86-64 Linux from another machine, from `target/staticlib`. Nothing of
-//! Rust's `std` is used.
+//! The library is linked from the folder that the environment variable
+//! `BAHMORIST_LIB_DIR` names while this package is built, for any target. Without it,
+//! from `target/native`, where `tools/library` puts it, or, for x86-64 Linux from
+//! another machine, from `target/staticlib`. Nothing of Rust's `std` is used.
 
 #![no_std]
 #![deny(missing_docs)]
@@ -20,9 +21,26 @@ extern crate std;
 mod face;
 mod mode;
 mod refusal;
+mod tags;
 
 pub use mode::Mode;
-pub use refusal::{Refusal, RefusedTable};
+pub use refusal::{NoRefusal, Refusal, RefusedTable};
+pub use tags::{hmac, hmac_array, hmac_check, hmac_verify, same};
+
+/// The version of this package.
+pub const VERSION: &str = env!("CARGO_PKG_VERSION");
+
+/// The version of the archive that is linked: 10,000 times its first part, 100 times
+/// the second and the third, added up. It is that of [`VERSION`] where the archive was
+/// made from the same sources.
+///
+/// ```
+/// assert_eq!(bahmorist::version() / 10_000, 0);
+/// ```
+pub fn version() -> u32 {
+    // SAFETY: it takes nothing and touches no memory.
+    unsafe { face::bahmorist_version() }
+}
 
 /// Puts the digest of a message in double-pipe, `bits` / 8 bytes, at the front of
 /// `out`; bytes behind it stay. The salt is sixteen zeros where there is none.
@@ -119,6 +137,29 @@ pub fn digest_in(
     })
 }
 
+/// The digest of a message as an array, of 8 * `N` bits, like [`digest_in`]. Refuses by
+/// 1 or 4.
+///
+/// ```
+/// use bahmorist::{digest_array, Mode, Refusal};
+///
+/// let digest: [u8; 32] = digest_array(Mode::default(), &[0; 16], b"")?;
+/// assert_eq!(digest[..4], [0x44, 0x96, 0xcd, 0x09]);
+///
+/// let refused = digest_array::<65>(Mode::default(), &[0; 16], b"");
+/// assert_eq!(refused, Err(Refusal::DigestLength));
+/// # Ok::<(), Refusal>(())
+/// ```
+pub fn digest_array<const N: usize>(
+    mode: Mode,
+    salt: &[u8; 16],
+    message: &[u8],
+) -> Result<[u8; N], Refusal> {
+    let mut digest = [0; N];
+    digest_in(mode, bits::<N>(), salt, message, &mut digest)?;
+    Ok(digest)
+}
+
 /// Puts the digest of a message of `message_bits` bits at the front of `out`, like
 /// [`digest_in`]. The most significant bit of a byte comes first, the message is as many
 /// bytes as its bits over 8, rounded up, and bits behind the last one are zero. Refuses
@@ -179,137 +220,6 @@ pub fn digest_bits(
             out.len(),
         )
     })
-}
-
-/// Puts the tag of a message under a key, `bits` / 8 bytes, at the front of
-/// `out`; bytes behind it stay. It is HMAC of FIPS 198-1 over the digest of that
-/// length and salt in double-pipe; the key may have any length. Refuses by 1, 2, 4
-/// or 5.
-///
-/// How long a call takes may depend on the key, since the substitution goes by
-/// tables: who can measure that, or shares the processor's cache, may learn
-/// something of it. Nothing of a key is erased from the stack.
-///
-/// A message that asks to join is tagged, and the tag is checked:
-///
-/// ```
-/// use bahmorist::{hmac, hmac_check};
-///
-/// let (salt, key) = ([0; 16], b"known to both nodes");
-/// let join = b"node a20000000007 asks to join";
-/// let mut tag = [0; 32];
-/// hmac(256, &salt, key, join, &mut tag)?;
-/// assert!(hmac_check(256, &salt, key, join, &tag)?);
-///
-/// let tampered = b"node a20000000008 asks to join";
-/// assert!(!hmac_check(256, &salt, key, tampered, &tag)?);
-/// # Ok::<(), bahmorist::Refusal>(())
-/// ```
-///
-/// It is two digests, each behind a block that the key is xored into:
-///
-/// ```
-/// let (salt, key, message) = ([9; 16], b"key", b"abc");
-/// let (mut inner, mut outer) = (vec![0x36; 128], vec![0x5c; 128]);
-/// for (place, byte) in key.iter().enumerate() {
-///     inner[place] ^= byte;
-///     outer[place] ^= byte;
-/// }
-/// inner.extend(message);
-/// let mut digest = [0; 64];
-/// bahmorist::digest(512, &salt, &inner, &mut digest)?;
-/// outer.extend(digest);
-/// bahmorist::digest(512, &salt, &outer, &mut digest)?;
-///
-/// let mut tag = [0; 64];
-/// bahmorist::hmac(512, &salt, key, message, &mut tag)?;
-/// assert_eq!(tag, digest);
-/// # Ok::<(), bahmorist::Refusal>(())
-/// ```
-///
-/// A room that is too small stays as it is:
-///
-/// ```
-/// use bahmorist::Refusal;
-///
-/// let mut out = [7; 31];
-/// let refused = bahmorist::hmac(256, &[0; 16], b"key", b"abc", &mut out);
-/// assert_eq!(refused, Err(Refusal::Room));
-/// assert_eq!(out, [7; 31]);
-/// ```
-pub fn hmac(
-    bits: u64,
-    salt: &[u8],
-    key: &[u8],
-    message: &[u8],
-    out: &mut [u8],
-) -> Result<(), Refusal> {
-    // SAFETY: each pointer comes with its slice's length; see `face`.
-    answer(unsafe {
-        face::bahmorist_hmac(
-            bits,
-            salt.as_ptr(),
-            salt.len(),
-            key.as_ptr(),
-            key.len(),
-            message.as_ptr(),
-            message.len(),
-            out.as_mut_ptr(),
-            out.len(),
-        )
-    })
-}
-
-/// Whether `tag` is the tag that [`hmac`] gives, all of it: bytes of any other
-/// length are none. Refuses by 1, 2 or 4.
-///
-/// How long a call takes may depend on the key, as with [`hmac`], and nothing of
-/// a key is erased from the stack.
-///
-/// ```
-/// use bahmorist::{hmac, hmac_check, Refusal};
-///
-/// let (salt, key) = ([0; 16], b"known to both nodes");
-/// let join = b"node a20000000007 asks to join";
-/// let mut tag = [0; 32];
-/// hmac(256, &salt, key, join, &mut tag)?;
-/// assert!(hmac_check(256, &salt, key, join, &tag)?);
-///
-/// // A tag that is cut is no tag, nor is one with a bit changed.
-/// assert!(!hmac_check(256, &salt, key, join, &tag[..31])?);
-/// assert!(!hmac_check(256, &salt, key, join, &[])?);
-/// tag[31] ^= 1;
-/// assert!(!hmac_check(256, &salt, key, join, &tag)?);
-///
-/// let refused = hmac_check(256, &salt[1..], key, join, &tag);
-/// assert_eq!(refused, Err(Refusal::Salt));
-/// # Ok::<(), Refusal>(())
-/// ```
-pub fn hmac_check(
-    bits: u64,
-    salt: &[u8],
-    key: &[u8],
-    message: &[u8],
-    tag: &[u8],
-) -> Result<bool, Refusal> {
-    let mut yes = 0;
-    // SAFETY: each pointer comes with its slice's length, and the answer is a
-    // variable of this function; see `face`.
-    answer(unsafe {
-        face::bahmorist_hmac_check(
-            bits,
-            salt.as_ptr(),
-            salt.len(),
-            key.as_ptr(),
-            key.len(),
-            message.as_ptr(),
-            message.len(),
-            tag.as_ptr(),
-            tag.len(),
-            &mut yes,
-        )
-    })
-    .map(|()| yes == 1)
 }
 
 /// Rewrites a square of 256 bytes by 8 or 10 of ECHO's rounds, whose inner
@@ -647,6 +557,11 @@ pub fn fingerprint(salt: &[u8], table: &[u8], out: &mut [u8]) -> Result<(), Refu
         )
     })
     .map_err(|refusal| RefusedTable { refusal, place })
+}
+
+/// The bits of `N` bytes. No digest has so many bytes that 64 bits don't hold their bits.
+fn bits<const N: usize>() -> u64 {
+    (N as u64).saturating_mul(8)
 }
 
 /// The halves of a counter, the lower one first.

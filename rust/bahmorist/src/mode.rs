@@ -8,12 +8,14 @@
 ///
 /// assert_eq!(Mode::DoublePipe.number(), 0);
 /// assert_eq!(Mode::SinglePipe.number(), 1);
+/// assert_eq!(Mode::default(), Mode::DoublePipe);
 /// ```
-#[derive(Debug, Clone, Copy, PartialEq, Eq, Hash)]
+#[derive(Debug, Clone, Copy, PartialEq, Eq, Hash, Default)]
 #[repr(u8)]
 pub enum Mode {
     /// ECHO itself: 64 bytes of chaining value and blocks of 192 up to 256 bits,
     /// and 128 and 128 above.
+    #[default]
     DoublePipe = 0,
     /// Section 5 of the paper, with half of the chaining value and longer blocks,
     /// for less state and less time: 32 bytes and 224 up to 256 bits, and 64 and

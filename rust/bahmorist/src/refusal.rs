@@ -11,9 +11,25 @@ use core::fmt::{self, Display, Formatter};
 ///
 /// assert_eq!(Refusal::Salt.number(), 2);
 /// assert_eq!(Refusal::from_number(2), Some(Refusal::Salt));
+/// assert_eq!(Refusal::try_from(2), Ok(Refusal::Salt));
+/// assert_eq!(u8::from(Refusal::Salt), 2);
 /// assert_eq!(Refusal::Salt.to_string(), "the salt is not 16 bytes");
 /// ```
+///
+/// More may come with a later version, so a `match` has an arm for the others:
+///
+/// ```compile_fail
+/// fn is_salt(refusal: bahmorist::Refusal) -> bool {
+///     use bahmorist::Refusal::*;
+///     match refusal {
+///         Salt => true,
+///         DigestLength | Session | Message | Room | Shape | Counter => false,
+///         Table | Kind | CutShort | SetBits | Tag => false,
+///     }
+/// }
+/// ```
 #[derive(Debug, Clone, Copy, PartialEq, Eq, Hash)]
+#[non_exhaustive]
 #[repr(u8)]
 pub enum Refusal {
     /// The digest length is not a multiple of 8 from 128 to 512.
@@ -45,10 +61,12 @@ pub enum Refusal {
     CutShort = 10,
     /// A bit of the message's last byte is set behind the last one that is used.
     SetBits = 17,
+    /// The tag is not the message's under this key, or not all of it.
+    Tag = 19,
 }
 
 /// All of them, in the order of their numbers.
-const ALL: [Refusal; 11] = [
+const ALL: [Refusal; 12] = [
     Refusal::DigestLength,
     Refusal::Salt,
     Refusal::Session,
@@ -60,17 +78,18 @@ const ALL: [Refusal; 11] = [
     Refusal::Kind,
     Refusal::CutShort,
     Refusal::SetBits,
+    Refusal::Tag,
 ];
 
 impl Refusal {
-    /// The number, from 1 to 10, or 17.
+    /// The number: 1 to 10, 17 or 19.
     pub fn number(self) -> u8 {
         self as u8
     }
 
     /// The refusal of a number; none for 0, which is no refusal, for 11, which is
-    /// unused and stays so, for 12 to 15, which are not in use, for 16, which is for
-    /// sessions alone, and above 17.
+    /// unused and stays so, for 12 to 15 and 18, which are not in use, for 16, which is
+    /// for sessions alone, and above 19.
     pub fn from_number(number: u8) -> Option<Refusal> {
         ALL.into_iter().find(|refusal| refusal.number() == number)
     }
@@ -94,11 +113,45 @@ impl Display for Refusal {
             Refusal::Kind => "unknown kind byte",
             Refusal::CutShort => "record cut short",
             Refusal::SetBits => "a bit is set behind the last one of the message",
+            Refusal::Tag => "the tag is not the message's",
         })
     }
 }
 
 impl Error for Refusal {}
+
+impl From<Refusal> for u8 {
+    fn from(refusal: Refusal) -> u8 {
+        refusal.number()
+    }
+}
+
+/// A number that is no refusal's.
+///
+/// ```
+/// use bahmorist::{NoRefusal, Refusal};
+///
+/// assert_eq!(Refusal::try_from(11), Err(NoRefusal(11)));
+/// assert_eq!(NoRefusal(11).to_string(), "11 is the number of no refusal");
+/// ```
+#[derive(Debug, Clone, Copy, PartialEq, Eq, Hash)]
+pub struct NoRefusal(pub u8);
+
+impl TryFrom<u8> for Refusal {
+    type Error = NoRefusal;
+
+    fn try_from(number: u8) -> Result<Refusal, NoRefusal> {
+        Refusal::from_number(number).ok_or(NoRefusal(number))
+    }
+}
+
+impl Display for NoRefusal {
+    fn fmt(&self, to: &mut Formatter) -> fmt::Result {
+        write!(to, "{} is the number of no refusal", self.0)
+    }
+}
+
+impl Error for NoRefusal {}
 
 /// Why a table was refused, and where.
 ///
@@ -128,11 +181,8 @@ impl Display for RefusedTable {
     }
 }
 
-impl Error for RefusedTable {
-    fn source(&self) -> Option<&(dyn Error + 'static)> {
-        Some(&self.refusal)
-    }
-}
+/// It has no source: its text says already why, and a chain of errors would say it twice.
+impl Error for RefusedTable {}
 
 /// A refusal that has no place, so that one function may call [`digest`] and
 /// [`fingerprint`] with `?`.
@@ -165,12 +215,15 @@ mod tests {
 
     #[test]
     fn numbers_go_there_and_back() {
-        for number in (1..=10).chain([17]) {
+        for number in (1..=10).chain([17, 19]) {
             let refusal = Refusal::from_number(number).unwrap();
             assert_eq!(refusal.number(), number);
+            assert_eq!(Refusal::try_from(number), Ok(refusal));
+            assert_eq!(u8::from(refusal), number);
         }
-        for number in (11..=16).chain([0, 18, 255]) {
+        for number in (11..=16).chain([0, 18]).chain(20..=255) {
             assert_eq!(Refusal::from_number(number), None);
+            assert_eq!(Refusal::try_from(number), Err(NoRefusal(number)));
         }
     }
 
@@ -189,13 +242,19 @@ mod tests {
         }
     }
 
+    /// As those print an error who print all that stand behind it.
     #[test]
-    fn a_refused_table_has_the_refusal_behind_it() {
+    fn a_chain_of_errors_says_a_refused_table_once() {
         for refusal in ALL {
             let refused = RefusedTable::from(refusal);
             assert_eq!(refused, RefusedTable { refusal, place: 0 });
-            let source = refused.source().expect("a source");
-            assert_eq!(source.to_string(), refusal.to_string());
+            let mut chain = refused.to_string();
+            let mut behind = refused.source();
+            while let Some(error) = behind {
+                chain += &error.to_string();
+                behind = error.source();
+            }
+            assert_eq!(chain.matches(&refusal.to_string()).count(), 1);
         }
     }
 }

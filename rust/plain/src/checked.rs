@@ -106,6 +106,14 @@ pub fn hmac_check(bits: u64, salt: &[u8], key: &[u8], message: &[u8], tag: &[u8]
     (refused, yes)
 }
 
+/// 0 for the tag that [`hmac`] gives alone. Refusals 1, 2, 4, 19.
+pub fn hmac_verify(bits: u64, salt: &[u8], key: &[u8], message: &[u8], tag: &[u8]) -> u8 {
+    match hmac_check(bits, salt, key, message, tag) {
+        (refusal::NONE, false) => refusal::TAG,
+        (refused, _) => refused,
+    }
+}
+
 /// The answer of [`hmac`] by the sizes alone, those of key and message together.
 pub fn hmac_refusal(bits: u64, salt: usize, sizes: (u64, u64), room: usize) -> u8 {
     match hmac_check_refusal(bits, salt, sizes) {

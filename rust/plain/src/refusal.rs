@@ -30,6 +30,8 @@ pub const CUT_SHORT: u8 = 10;
 pub const PART_BYTE: u8 = 16;
 /// A bit is set behind the last one that is used.
 pub const SET_BITS: u8 = 17;
+/// The tag is not the message's.
+pub const TAG: u8 = 19;
 
 /// The most bits of a message. From 2^64 - 160 on, the paper's section 3.1 asks for the
 /// longer counter.

@@ -23,6 +23,10 @@ pub enum Routine {
     Hmac { bits: u64 },
     /// A check of a tag.
     HmacCheck { bits: u64 },
+    /// A tag verified.
+    HmacVerify { bits: u64 },
+    /// Two strings of bytes compared.
+    Same,
     /// Rounds forward.
     Rounds { count: u64, counter: u64 },
     /// Rounds backward.
@@ -48,10 +52,11 @@ pub struct Case {
     pub salt: Vec<u8>,
     /// The key of a tag; other routines have none.
     pub key: Vec<u8>,
-    /// What else is read: message, block or table; rounds have none.
+    /// What else is read: message, block or table; rounds have none. A comparison has
+    /// its first string here.
     pub input: Vec<u8>,
     /// What is lent to be written: output room, square or chaining value. A check
-    /// is lent the tag, and writes none of it.
+    /// is lent the tag, and a comparison its second string, and writes none of it.
     pub lent: Vec<u8>,
 }
 
@@ -62,7 +67,7 @@ pub struct Outcome {
     pub number: u8,
     /// The place, 0 where there is none.
     pub place: u64,
-    /// 1 where a check says yes, else 0.
+    /// 1 where a check or a comparison says yes, else 0.
     pub yes: u8,
     /// All that was lent, afterwards.
     pub lent: Vec<u8>,
@@ -124,6 +129,8 @@ impl Case {
             Routine::DigestBits { .. } => ("digest of bits", "message", "room"),
             Routine::Hmac { .. } => ("tag", "message", "room"),
             Routine::HmacCheck { .. } => ("check", "message", "tag"),
+            Routine::HmacVerify { .. } => ("verification", "message", "tag"),
+            Routine::Same => ("comparison", "one", "the other"),
             Routine::Rounds { .. } => ("rounds", "", "square"),
             Routine::RoundsBack { .. } => ("rounds backward", "", "square"),
             Routine::RoundsWide { .. } => ("wide rounds", "", "square"),
@@ -133,6 +140,14 @@ impl Case {
             }
             Routine::CompressWide { .. } => ("wide compression", "block", "chaining value"),
             Routine::Fingerprint => ("fingerprint", "table", "room"),
+        }
+    }
+
+    /// The same case, of another routine.
+    pub fn with(&self, routine: Routine) -> Case {
+        Case {
+            routine,
+            ..self.clone()
         }
     }
 
@@ -161,7 +176,7 @@ impl Display for Case {
                 bits,
                 message_bits,
             } => write!(to, "mode {mode}, {bits} bits of {message_bits}, ")?,
-            Routine::Hmac { bits } | Routine::HmacCheck { bits } => {
+            Routine::Hmac { bits } | Routine::HmacCheck { bits } | Routine::HmacVerify { bits } => {
                 write!(to, "{bits} bits, key {}, ", shown(&self.key))?
             }
             Routine::Rounds { count, counter } | Routine::RoundsBack { count, counter } => {
@@ -177,9 +192,11 @@ impl Display for Case {
             Routine::CompressWide { mode, counter } => {
                 write!(to, "mode {mode}, counter {counter:#x}, ")?
             }
-            Routine::Fingerprint => {}
+            Routine::Fingerprint | Routine::Same => {}
         }
-        write!(to, "salt {}, ", shown(&self.salt))?;
+        if self.routine != Routine::Same {
+            write!(to, "salt {}, ", shown(&self.salt))?;
+        }
         if !input.is_empty() {
             write!(to, "{input} {}, ", shown(&self.input))?;
         }

@@ -52,6 +52,11 @@ pub fn refusals(case: &Case) -> Vec<(u8, u64)> {
         }
         // A tag that is shorter than the right one is no room: it gets a no.
         Routine::HmacCheck { bits } => holding([(1, !admitted(bits)), bad_salt]),
+        Routine::HmacVerify { bits } => {
+            let wrong = is_wrong(bits, case);
+            holding([(1, !admitted(bits)), bad_salt, (19, wrong)])
+        }
+        Routine::Same => Vec::new(),
         Routine::Rounds { count, counter } | Routine::RoundsBack { count, counter } => {
             let shape = lent == 256 && (count == 8 || count == 10);
             holding([bad_salt, (6, !shape), (7, counter > HIGHEST_COUNTER)])
@@ -78,6 +83,17 @@ pub fn refusals(case: &Case) -> Vec<(u8, u64)> {
             refusals.extend(bad_record(&case.input));
             refusals
         }
+    }
+}
+
+/// Whether the bytes that are lent are not the tag. Without an admitted length and a
+/// salt there is none.
+fn is_wrong(bits: u64, case: &Case) -> bool {
+    match <&[u8; 16]>::try_from(case.salt.as_slice()) {
+        Ok(salt) if admitted(bits) => {
+            case.lent != plain::hmac::hmac(bits, salt, &case.key, &case.input)
+        }
+        _ => true,
     }
 }
 

@@ -18,18 +18,20 @@ pub mod random_messages;
 pub mod refusals;
 pub mod rounds_backward;
 pub mod rounds_forward;
+pub mod same;
 pub mod side_by_side;
 pub mod table_words;
 pub mod tables;
 pub mod tags;
 pub mod there_and_back;
+pub mod version;
 pub mod whole_bytes;
 pub mod wide_compressions;
 pub mod wide_rounds;
 
 use crate::family::Family;
 
-pub const ALL: [Family; 26] = [
+pub const ALL: [Family; 28] = [
     block_edges::FAMILY,
     every_length::FAMILY,
     random_messages::FAMILY,
@@ -38,6 +40,7 @@ pub const ALL: [Family; 26] = [
     whole_bytes::FAMILY,
     tags::FAMILY,
     checks::FAMILY,
+    same::FAMILY,
     rounds_forward::FAMILY,
     rounds_backward::FAMILY,
     there_and_back::FAMILY,
@@ -56,4 +59,5 @@ pub const ALL: [Family; 26] = [
     table_words::FAMILY,
     descriptors::FAMILY,
     side_by_side::FAMILY,
+    version::FAMILY,
 ];

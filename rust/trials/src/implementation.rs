@@ -1,10 +1,11 @@
-//! An implementation under trial: its thirteen routines, as functions on slices.
+//! An implementation under trial: its fifteen routines, as functions on slices.
 
 use crate::case::Routine;
 use plain::checked;
 
 /// The routines of one implementation. Each answers a refusal number, or 0; a
-/// fingerprint answers a place too, and a check 1 for yes or 0 for no.
+/// fingerprint answers a place too, and a check 1 for yes or 0 for no, which is all that
+/// a comparison answers.
 #[derive(Clone, Copy)]
 pub struct Implementation {
     /// By digest length, salt, message and output room.
@@ -13,6 +14,9 @@ pub struct Implementation {
     pub digest_bits: DigestBits,
     pub hmac: Hmac,
     pub hmac_check: HmacCheck,
+    pub hmac_verify: HmacVerify,
+    /// By two strings of bytes.
+    pub same: fn(&[u8], &[u8]) -> u8,
     /// By square, round count, starting counter and salt.
     pub rounds: fn(&mut [u8], u64, u64, &[u8]) -> u8,
     /// Like `rounds`.
@@ -47,6 +51,9 @@ pub type Hmac = fn(u64, &[u8], &[u8], &[u8], &mut [u8]) -> u8;
 /// By digest length, salt, key, message and tag.
 pub type HmacCheck = fn(u64, &[u8], &[u8], &[u8], &[u8]) -> (u8, u8);
 
+/// Like [`HmacCheck`].
+pub type HmacVerify = fn(u64, &[u8], &[u8], &[u8], &[u8]) -> u8;
+
 /// A refusal number, or 0, and a place, or 0.
 pub type Placed = (u8, u64);
 
@@ -64,12 +71,14 @@ pub struct Answer {
     pub number: u8,
     /// A place, or 0.
     pub place: u64,
-    /// 1 where a check says yes, else 0.
+    /// 1 where a check or a comparison says yes, else 0.
     pub yes: u8,
 }
 
 /// The proved library. Its four routines in a mode take the numbers of a mode alone,
-/// since Rust's functions take an enum; the C functions are tried with all numbers.
+/// since Rust's functions take an enum, and tags are verified under salts of 16 bytes
+/// alone, since Rust's function takes an array; the C functions are tried with all
+/// numbers and all salts.
 pub const LIBRARY: Implementation = Implementation {
     digest: |bits, salt, message, out| number(bahmorist::digest(bits, salt, message, out)),
     digest_in: |mode, bits, salt, message, out| {
@@ -92,6 +101,11 @@ pub const LIBRARY: Implementation = Implementation {
         let answer = bahmorist::hmac_check(bits, salt, key, message, tag);
         answer.map_or_else(|refusal| (refusal.number(), 0), |yes| (0, yes.into()))
     },
+    hmac_verify: |bits, salt, key, message, tag| {
+        let salt = salt.try_into().expect("a salt of 16 bytes");
+        number(bahmorist::hmac_verify(bits, salt, key, message, tag))
+    },
+    same: |a, b| bahmorist::same(a, b).into(),
     rounds: |square, count, counter, salt| number(bahmorist::rounds(square, count, counter, salt)),
     rounds_back: |square, count, counter, salt| {
         number(bahmorist::rounds_back(square, count, counter, salt))
@@ -131,6 +145,8 @@ pub const PLAIN: Implementation = Implementation {
         let (number, yes) = checked::hmac_check(bits, salt, key, message, tag);
         (number, yes.into())
     },
+    hmac_verify: checked::hmac_verify,
+    same: |a, b| (a == b).into(),
     rounds: checked::rounds,
     rounds_back: checked::rounds_back,
     compress: checked::compress,
@@ -187,6 +203,11 @@ impl Implementation {
                     ..alone(number)
                 }
             }
+            Routine::HmacVerify { bits } => alone((self.hmac_verify)(bits, salt, key, input, lent)),
+            Routine::Same => Answer {
+                yes: (self.same)(input, lent),
+                ..alone(0)
+            },
             Routine::Rounds { count, counter } => alone((self.rounds)(lent, count, counter, salt)),
             Routine::RoundsBack { count, counter } => {
                 alone((self.rounds_back)(lent, count, counter, salt))

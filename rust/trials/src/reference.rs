@@ -72,6 +72,11 @@ fn third(case: &Case) -> Option<Outcome> {
             let tag = third::hmac(bits, salt, &case.key, &case.input)?;
             third.yes = (tag == case.lent).into();
         }
+        // It was verified, so that `third` has to find it right.
+        Routine::HmacVerify { bits } => {
+            let tag = third::hmac(bits, salt, &case.key, &case.input)?;
+            third.number = if tag == case.lent { 0 } else { 19 };
+        }
         Routine::Rounds { count, counter } => {
             rounds(&mut third.lent, count, counter.into(), salt)?;
         }
@@ -87,9 +92,10 @@ fn third(case: &Case) -> Option<Outcome> {
         Routine::CompressWide { mode, counter } => {
             compress(mode, &mut third.lent, &case.input, counter, salt)?;
         }
-        Routine::RoundsBack { .. } | Routine::RoundsBackWide { .. } | Routine::Fingerprint => {
-            return None
-        }
+        Routine::RoundsBack { .. }
+        | Routine::RoundsBackWide { .. }
+        | Routine::Fingerprint
+        | Routine::Same => return None,
     }
     Some(third)
 }

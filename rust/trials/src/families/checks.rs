@@ -1,10 +1,11 @@
 //! Checks of tags: right ones for every admitted length and key, and those that
-//! are nearly right, cut anywhere, longer, empty, or right for something else.
+//! are nearly right, cut anywhere, longer, empty, or right for something else. Each tag
+//! is verified too, by the routine whose answer says it all.
 
 #[cfg(test)]
 mod tests;
 
-use crate::case::Case;
+use crate::case::{Case, Routine};
 use crate::draw;
 use crate::family::{Family, Run};
 use seeded::Generator;
@@ -24,26 +25,35 @@ fn run(run: &mut Run) -> Result<(), String> {
     for bits in draw::digest_lengths() {
         for key in draw::keys(bits) {
             let right = draw::check(&mut run.generator, bits, key, 100);
-            run.check(&right)?;
+            both(run, &right)?;
         }
         let right = draw::check(&mut run.generator, bits, 40, 30);
         let mut cases = other_lengths(&mut run.generator, &right);
         cases.extend(for_something_else(&mut run.generator, bits, &right));
         let bit = run.generator.below(bits) as usize;
         cases.push(flipped(&right, bit));
-        cases.iter().try_for_each(|case| run.check(case))?;
+        cases.iter().try_for_each(|case| both(run, case))?;
     }
     for bits in EACH_BIT {
         let right = draw::check(&mut run.generator, bits, 5, 3);
         for bit in 0..bits as usize {
-            run.check(&flipped(&right, bit))?;
+            both(run, &flipped(&right, bit))?;
         }
     }
     for _ in 0..run.cases(USUAL) {
         let case = some(&mut run.generator);
-        run.check(&case)?;
+        both(run, &case)?;
     }
     Ok(())
+}
+
+/// A check, and the same tag verified.
+fn both(run: &mut Run, check: &Case) -> Result<(), String> {
+    let Routine::HmacCheck { bits } = check.routine else {
+        panic!("no check: {check}");
+    };
+    run.check(check)?;
+    run.check(&check.with(Routine::HmacVerify { bits }))
 }
 
 /// The right tag cut at every length, the empty one among them, and longer by

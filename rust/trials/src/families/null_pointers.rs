@@ -70,6 +70,18 @@ extern "C" {
         tag_len: usize,
         yes: *mut u8,
     ) -> u8;
+    fn bahmorist_hmac_verify(
+        bits: u64,
+        salt: *const u8,
+        salt_len: usize,
+        key: *const u8,
+        key_len: usize,
+        message: *const u8,
+        message_len: usize,
+        tag: *const u8,
+        tag_len: usize,
+    ) -> u8;
+    fn bahmorist_same(a: *const u8, a_len: usize, b: *const u8, b_len: usize) -> u8;
     fn bahmorist_rounds(
         square: *mut u8,
         square_len: usize,
@@ -145,7 +157,7 @@ extern "C" {
     ) -> u8;
 }
 
-// SAFETY, for all thirteen: the pointer of a slice and its length, or NULL and 0; what
+// SAFETY, for all fifteen: the pointer of a slice and its length, or NULL and 0; what
 // is written comes from a `&mut`.
 pub const WITH_NULL: Implementation = Implementation {
     digest: |bits, salt, message, out| {
@@ -230,6 +242,30 @@ pub const WITH_NULL: Implementation = Implementation {
             )
         };
         (number, yes)
+    },
+    hmac_verify: |bits, salt, key, message, tag| {
+        let (salt, salt_len) = read(salt);
+        let (key, key_len) = read(key);
+        let (message, message_len) = read(message);
+        let (tag, tag_len) = read(tag);
+        unsafe {
+            bahmorist_hmac_verify(
+                bits,
+                salt,
+                salt_len,
+                key,
+                key_len,
+                message,
+                message_len,
+                tag,
+                tag_len,
+            )
+        }
+    },
+    same: |a, b| {
+        let (a, a_len) = read(a);
+        let (b, b_len) = read(b);
+        unsafe { bahmorist_same(a, a_len, b, b_len) }
     },
     rounds: |square, count, counter, salt| {
         let (square, square_len) = written(square);
@@ -375,8 +411,9 @@ fn with_empty(
         input: zeros_after_twos(length(1, input)),
         lent: run.generator.vector(length(2, lent)),
     };
-    if let Routine::HmacCheck { bits } = routine {
-        if expected::refusals(&case).is_empty() && !case.lent.is_empty() {
+    if let Routine::HmacCheck { bits } | Routine::HmacVerify { bits } = routine {
+        let checked = case.with(Routine::HmacCheck { bits });
+        if expected::refusals(&checked).is_empty() && !case.lent.is_empty() {
             case.lent = draw::right_tag(bits, &case);
         }
     }
@@ -385,7 +422,7 @@ fn with_empty(
 
 /// Routines, with the lengths of the input and of what is lent that they would
 /// not refuse. Some are refused for a number all the same.
-fn routines() -> [(Routine, usize, usize); 12] {
+fn routines() -> [(Routine, usize, usize); 13] {
     let counter = 1536;
     [
         (Routine::Digest { bits: 128 }, 5, 16),
@@ -400,6 +437,7 @@ fn routines() -> [(Routine, usize, usize); 12] {
         (Routine::Compress { counter: u64::MAX }, 128, 128),
         (Routine::Fingerprint, 6, 32),
         (Routine::Fingerprint, 7, 40),
+        (Routine::Same, 5, 5),
     ]
 }
 
@@ -462,7 +500,7 @@ fn of_bits() -> [(Routine, usize, usize); 11] {
 }
 
 /// The same of routines that have a key, whose length comes first.
-fn keyed() -> [(Routine, usize, usize, usize); 7] {
+fn keyed() -> [(Routine, usize, usize, usize); 11] {
     [
         (Routine::Hmac { bits: 128 }, 5, 5, 16),
         (Routine::Hmac { bits: 512 }, 129, 200, 64),
@@ -471,6 +509,10 @@ fn keyed() -> [(Routine, usize, usize, usize); 7] {
         (Routine::HmacCheck { bits: 256 }, 193, 192, 32),
         (Routine::HmacCheck { bits: 512 }, 128, 200, 64),
         (Routine::HmacCheck { bits: 0 }, 5, 5, 64),
+        (Routine::HmacVerify { bits: 128 }, 5, 5, 16),
+        (Routine::HmacVerify { bits: 256 }, 193, 192, 32),
+        (Routine::HmacVerify { bits: 512 }, 128, 200, 64),
+        (Routine::HmacVerify { bits: 0 }, 5, 5, 64),
     ]
 }
 

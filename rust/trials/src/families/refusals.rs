@@ -34,10 +34,12 @@ fn run(run: &mut Run) -> Result<(), String> {
     cases.iter().try_for_each(|case| run.check(case))?;
     let checks = checks(&mut run.generator);
     checks.iter().try_for_each(|case| run.check(case))?;
-    // The C functions themselves: the refusals of a check say no in so many words,
-    // and a mode may have any number.
+    // The C functions themselves: the refusals of a check say no in so many words, a
+    // salt may have any length where a tag is verified, and a mode any number.
     run.subject = WITH_NULL;
     checks.iter().try_for_each(|case| run.check(case))?;
+    let mut verified = checks.iter().map(verified);
+    verified.try_for_each(|case| run.check(&case))?;
     let mut cases = in_modes(&mut run.generator, &inputs::MODES);
     cases.extend(wide_rounds(&mut run.generator));
     cases.extend(wide_in_modes(&mut run.generator, &inputs::MODES));
@@ -147,6 +149,14 @@ fn checks(generator: &mut Generator) -> Vec<Case> {
         }
     }
     cases
+}
+
+/// A check as a verification: numbers 1, 2 and 19.
+fn verified(check: &Case) -> Case {
+    let Routine::HmacCheck { bits } = check.routine else {
+        panic!("no check: {check}");
+    };
+    check.with(Routine::HmacVerify { bits })
 }
 
 /// Numbers 2, 6 and 7, forward and backward.

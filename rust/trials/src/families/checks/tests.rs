@@ -25,7 +25,8 @@ fn the_library_passes_and_is_counted() {
     // For each length 6 that are right, 4 longer, 5 of something else and one
     // with a bit changed; all that are cut; and all bits of four lengths.
     let cut: usize = (16..=64).sum();
-    assert_eq!(agreed, Ok(49 * (6 + 4 + 5 + 1) + cut + 1160 + 50));
+    let checks = 49 * (6 + 4 + 5 + 1) + cut + 1160 + 50;
+    assert_eq!(agreed, Ok(2 * checks));
 }
 
 #[test]
@@ -35,6 +36,22 @@ fn a_check_that_always_says_the_same_is_seen() {
     assert!(no.ends_with("done, where done with a yes is right"), "{no}");
     let yes = said(|_, _, _, _, _| (0, 1));
     assert!(yes.ends_with(YES_IS_WRONG), "{yes}");
+}
+
+/// As a caller would make of a check that forgets to look at the yes.
+#[test]
+fn a_verification_that_lets_a_wrong_tag_through_is_seen() {
+    let wrong = Implementation {
+        hmac_verify: |bits, salt, key, message, given| {
+            let (number, _) = (LIBRARY.hmac_check)(bits, salt, key, message, given);
+            number
+        },
+        ..LIBRARY
+    };
+    let said = FAMILY.tried(wrong, 1, Some(1)).unwrap_err();
+    assert!(said.contains("verification, 128 bits, "), "{said}");
+    let end = "done, where refused 19 at 0 is right";
+    assert!(said.ends_with(end), "{said}");
 }
 
 #[test]

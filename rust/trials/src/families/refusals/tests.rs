@@ -28,7 +28,12 @@ fn every_set_of_refusals_is_met() {
     let digests_without_mode = digests(generator, |bits| Routine::Digest { bits });
     assert_eq!(sets(digests_without_mode), every_set(&[1, 2, 5]));
     assert_eq!(sets(tags(generator)), every_set(&[1, 2, 5]));
-    assert_eq!(sets(checks(generator)), every_set(&[1, 2]));
+    let checks = checks(generator);
+    // Without an admitted length and a salt no tag is right.
+    let mut verifications = every_set(&[1, 2, 19]);
+    verifications.retain(|set| set.is_empty() || set.contains(&19));
+    assert_eq!(sets(checks.iter().map(verified).collect()), verifications);
+    assert_eq!(sets(checks), every_set(&[1, 2]));
     assert_eq!(sets(rounds(generator)), every_set(&[2, 6, 7]));
     assert_eq!(sets(wide_rounds(generator)), every_set(&[2, 6]));
     let without_mode = |counter| Routine::Compress { counter };

@@ -12,8 +12,13 @@ const NAMED: &str = "BAHMORIST_LIB_DIR";
 fn main() {
     println!("cargo::rerun-if-env-changed={NAMED}");
     let package = variable("CARGO_MANIFEST_DIR");
-    let folder = match env::var_os(NAMED) {
-        Some(folder) => PathBuf::from(folder),
+    let folder = match env::var_os(NAMED).map(PathBuf::from) {
+        // Cargo builds each package in a folder of its own, where another path would lead
+        // elsewhere than its writer meant.
+        Some(folder) if folder.is_relative() => {
+            return println!("cargo::error={NAMED} is no whole path: {}", folder.display())
+        }
+        Some(folder) => folder,
         None => match folder() {
             Ok(folder) => Path::new(&package).join("../..").join(folder),
             Err(wrong) => return println!("cargo::error={wrong}; or name a folder by {NAMED}"),

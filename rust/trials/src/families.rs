@@ -50,6 +50,7 @@ pub const ALL: [Family; 28] = [
     both_widths::FAMILY,
     refusals::FAMILY,
     null_pointers::FAMILY,
+    version::FAMILY,
     tables::FAMILY,
     both_paths::FAMILY,
     program_counters::FAMILY,
@@ -59,5 +60,4 @@ pub const ALL: [Family; 28] = [
     table_words::FAMILY,
     descriptors::FAMILY,
     side_by_side::FAMILY,
-    version::FAMILY,
 ];

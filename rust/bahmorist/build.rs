@@ -16,7 +16,10 @@ fn main() {
         // Cargo builds each package in a folder of its own, where another path would lead
         // elsewhere than its writer meant.
         Some(folder) if folder.is_relative() => {
-            return println!("cargo::error={NAMED} is no whole path: {}", folder.display())
+            return println!(
+                "cargo::error={NAMED} is no whole path: {}",
+                folder.display()
+            )
         }
         Some(folder) => folder,
         None => match folder() {

@@ -165,7 +165,10 @@ fn accepted(kind: u8, length: usize) -> bool {
 fn the_header_has_the_kinds_that_the_library_reads() {
     let sizes: Vec<(&str, usize)> = HEADER
         .lines()
-        .filter_map(|line| line.strip_prefix("#define BAHMORIST_")?.split_once("_BYTES "))
+        .filter_map(|line| {
+            line.strip_prefix("#define BAHMORIST_")?
+                .split_once("_BYTES ")
+        })
         .map(|(name, size)| (name, size.parse().expect("a size")))
         .collect();
     let named = numbers("BAHMORIST_KIND_").into_iter().map(|(name, kind)| {
@@ -179,7 +182,10 @@ fn the_header_has_the_kinds_that_the_library_reads() {
 #[test]
 fn the_page_has_the_kinds_that_the_library_reads() {
     let (_, behind) = USING.split_once("| Kind | Body |").expect("a table");
-    let rows = behind.lines().skip(2).map_while(|row| row.strip_prefix("| "));
+    let rows = behind
+        .lines()
+        .skip(2)
+        .map_while(|row| row.strip_prefix("| "));
     let listed = rows.map(|row| {
         let mut cells = row.split(" | ");
         let kind = u8::from_str_radix(cells.next().unwrap_or(""), 16);

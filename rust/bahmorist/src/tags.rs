@@ -185,12 +185,12 @@ pub fn same(a: &[u8], b: &[u8]) -> bool {
     yes == 1
 }
 
+/// **`Ok` does not say that the tag is right**, only that there is an answer, which is
+/// the `bool`: `hmac_check(..)?;` alone lets every forged tag through. Of
+/// [`hmac_verify`] `Ok` does say it.
+///
 /// Whether `tag` is the tag that [`hmac`] gives, all of it: bytes of any other
 /// length are none. Refuses by 1, 2 or 4.
-///
-/// **`Ok` says that there is an answer, and not that the tag is right**: that is what
-/// the `bool` says, so `hmac_check(..)?;` alone lets every forged tag through. Use
-/// [`hmac_verify`], of which `Ok` says it.
 ///
 /// How long a call takes may depend on the key, as with [`hmac`], and nothing of
 /// a key is erased from the stack.

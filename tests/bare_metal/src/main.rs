@@ -50,9 +50,14 @@ fn panicked(_: &PanicInfo) -> ! {
     end(2)
 }
 
-/// The tables of a `core` that was made for a system name it. Nothing unwinds here.
+/// A `core` that was made for a system names these two. Nothing unwinds here.
 #[no_mangle]
 extern "C" fn rust_eh_personality() {}
+
+#[no_mangle]
+extern "C" fn _Unwind_Resume() -> ! {
+    end(3)
+}
 
 /// # Safety
 ///

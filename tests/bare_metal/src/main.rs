@@ -66,7 +66,8 @@ extern "C" fn _Unwind_Resume() -> ! {
 unsafe extern "C" fn memcpy(to: *mut u8, from: *const u8, count: usize) -> *mut u8 {
     for place in 0..count {
         // Volatile, so that the loop does not become a call of the function it is in.
-        to.add(place).write_volatile(from.add(place).read_volatile());
+        to.add(place)
+            .write_volatile(from.add(place).read_volatile());
     }
     to
 }

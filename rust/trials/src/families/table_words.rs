@@ -56,9 +56,9 @@ const FINGERPRINT: Program = Program {
     usage: "usage: fingerprint_table [--explain] [-s SALT] [FILE]",
     help: "\
 Prints the fingerprint of a steering table, its ECHO digest of 256 bits under a salt, as 64 hex
-digits. FILE holds sixteen salt bytes and then the table, or with -s the table alone. Of a table that
-is refused only `refused N at P` is printed, with the refusal's number and its place. No FILE, or -,
-is standard input.
+digits. FILE holds sixteen salt bytes and then the table, or with -s the table alone. Of a table
+that is refused only `refused N at P` is printed, with the refusal's number and its place. No FILE,
+or -, is standard input.
 
   --explain   says a refusal in words too, in one line on standard error
   -s SALT     the salt, 32 hex digits of either case

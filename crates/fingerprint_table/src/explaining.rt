@@ -7,8 +7,7 @@ use lines::put_decimal;
 use lines::put_hex;
 use steering::Reading;
 
-// How many bytes follow a kind byte, and 0 where no record has that kind. That is where the library stops reading in a table that has enough
-// of them for any kind.
+// How many bytes follow a kind byte, and 0 where no record has that kind: as many as the library takes of a table that has enough for any kind.
 fn body_length(kind: u8) -> usize {
     let mut table = [0u8; 33];
     table[0] = kind;

@@ -4,10 +4,11 @@
 # make bench BEFORE=PATH/libbahmorist.a   the same, and beside an earlier build, which that commit's tools/library made; takes objcopy
 # make trials SEED=1 CASES=1000 a longer run against the second implementation, with its own seed and number of cases
 # make wrong                    runs each wrong program, and tells the first case that shows it; after `make`, for some twenty minutes
-# make install PREFIX=/usr/local DESTDIR=   header, archive, pkg-config file and programs, as `make` built them
+# make install PREFIX=/usr/local DESTDIR=   header, archive, pkg-config file and programs, as `make` built them, manuals and pages
+# make uninstall PREFIX=/usr/local DESTDIR= removes what `make install` put there, and nothing else
 # make clean                    removes what was built
 # make help                     prints this
-.PHONY: all test bench trials wrong install clean help
+.PHONY: all test bench trials wrong install uninstall clean help
 
 # The examples: a steering table's records, its fingerprint, and the digest of "abc".
 all:
@@ -42,16 +43,31 @@ wrong:
 PREFIX = /usr/local
 DESTDIR =
 PROGRAMS = echosum fingerprint_table list_table
+MANUALS = $(wildcard man/*.1)
+PAGES = $(wildcard README.md CONTRIBUTING.md docs/*.md include/*.md)
 place = $(DESTDIR)$(PREFIX)
+own = $(place)/libexec/bahmorist
+pages = $(place)/share/doc/bahmorist
 install:
 	@for file in native/libbahmorist.a $(PROGRAMS:%=bin/%); do [ -f "target/$$file" ] || { echo "no target/$$file: run 'make' first" >&2; exit 1; }; done
-	mkdir -p "$(place)/include" "$(place)/lib/pkgconfig" "$(place)/libexec/bahmorist/programs" "$(place)/bin"
+	mkdir -p "$(place)/include" "$(place)/lib/pkgconfig" "$(own)/programs" "$(place)/bin" "$(place)/share/man/man1" "$(pages)"
 	cp include/bahmorist.h "$(place)/include"
 	cp target/native/libbahmorist.a "$(place)/lib"
 	sed "s|@PREFIX@|$(PREFIX)|; s|@VERSION@|$$(sed -n 's/^#define BAHMORIST_VERSION "\(.*\)"/\1/p' include/bahmorist.h)|" tools/bahmorist.pc >"$(place)/lib/pkgconfig/bahmorist.pc"
-	cp $(PROGRAMS:%=target/bin/%) "$(place)/libexec/bahmorist/programs"
-	cp tools/run "$(place)/libexec/bahmorist"
+	cp $(PROGRAMS:%=target/bin/%) "$(own)/programs"
+	cp tools/run "$(own)"
 	for name in $(PROGRAMS); do ln -sf ../libexec/bahmorist/run "$(place)/bin/$$name"; done
+	cp $(MANUALS) "$(place)/share/man/man1"
+	cp $(PAGES) "$(pages)"
+
+# Folders of others stay, even where they are empty now; its own go, unless someone has put something there.
+uninstall:
+	rm -f "$(place)/include/bahmorist.h" "$(place)/lib/libbahmorist.a" "$(place)/lib/pkgconfig/bahmorist.pc"
+	for name in $(PROGRAMS); do rm -f "$(place)/bin/$$name" "$(own)/programs/$$name"; done
+	rm -f "$(own)/run"
+	for name in $(notdir $(MANUALS)); do rm -f "$(place)/share/man/man1/$$name"; done
+	for name in $(notdir $(PAGES)); do rm -f "$(pages)/$$name"; done
+	for folder in "$(own)/programs" "$(own)" "$(pages)"; do [ ! -d "$$folder" ] || rmdir "$$folder" || :; done
 
 clean:
 	rm -rf target rust/target

@@ -1,6 +1,7 @@
 // The lines of a table. Each function answers whether all was written.
 ghost use Prim.Native.Nat.{_<_, _≤_};
 ghost use lib.ListN.{length};
+use super::explaining::explain;
 use libc::STDOUT_FILENO;
 use lines::put;
 use lines::put_decimal;
@@ -63,18 +64,27 @@ fn print_records(table: &[u8]) -> bool {
     }
 }
 
-fn list(table: &[u8]) -> bool {
+// The line of a refusal, and then that in words where it is asked for.
+fn refuse(table: &[u8], number: u8, place: usize, explains: bool) -> bool {
+    let is_written = print_refused(number, place);
+    if is_written && explains {
+        explain(table, number, place);
+    }
+    is_written
+}
+
+fn list(table: &[u8], explains: bool) -> bool {
     let counted = steering::count(table);
     let refused = counted.refusal;
     if refused != 0 {
-        return print_refused(refused, counted.place);
+        return refuse(table, refused, counted.place, explains);
     }
     print_records(table) && print_count(counted.count)
 }
 
 // The table is the first n bytes.
-pub(crate) fn list_front(room: &[u8], n: usize) -> bool
+pub(crate) fn list_front(room: &[u8], n: usize, explains: bool) -> bool
     requires { ⌜ n ≤ length (now room) ⌝ }
 {
-    list(&room[0..n])
+    list(&room[0..n], explains)
 }

@@ -15,6 +15,9 @@ module _ (table : List ℕ) (place : ℕ) (x : Reading) (record-read : Record) (
   pub goes-on : place < next
   goes-on = let here = found table place record-read next (sym is ∙ read) in omega (arith, here .next-is)
 
+  pub not-first : 1 ≤ next
+  not-first = let here = goes-on in omega arith
+
   pub in-table : next ≤ length table
   in-table = let here = found table place record-read next (sym is ∙ read) in omega (arith, here .next-is, here .in-table)
 

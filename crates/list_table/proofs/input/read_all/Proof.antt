@@ -7,10 +7,10 @@ use Rattle.list_table.proofs.input.read_all.Statement.{statement}
 use Rattle.list_table.proofs.input.read_all.Tie as tie
 
 abbrev Inv-loop : tie.InvT-loop
-Inv-loop room₀ size₀ room size = (size ≤ length room) × (length room ≡ length room₀)
+Inv-loop fd room₀ size₀ room size = (size ≤ length room) × (length room ≡ length room₀)
 
 abbrev μ-loop : tie.MeasureT-loop
-μ-loop room₀ size₀ room size = length room - size
+μ-loop fd room₀ size₀ room size = length room - size
 
 loop-holds : tie.Need-loop-holds Inv-loop μ-loop
 loop-holds c = search needs

@@ -1,0 +1,2 @@
+-- What the proofs cite, apart from any function.
+pub mod Laws

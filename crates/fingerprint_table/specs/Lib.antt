@@ -1,0 +1,3 @@
+-- What the contracts of this crate mean. A word of the command line is a list of bytes, and a byte a number below 256.
+pub mod Hexadecimal
+pub mod Salts

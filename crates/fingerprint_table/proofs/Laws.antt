@@ -1,3 +1,1 @@
-pub mod Hexadecimal
 pub mod Records
-pub mod Salts

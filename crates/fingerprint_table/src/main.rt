@@ -3,10 +3,8 @@
 mod explaining;
 mod fingerprinting;
 mod help;
-mod hexadecimal;
 mod input;
 mod options;
-mod salts;
 mod saying;
 mod words;
 

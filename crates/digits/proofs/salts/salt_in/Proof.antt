@@ -3,10 +3,10 @@ use mathlib.Core.Path.{_≡_}
 use Prim.Native.Nat.{_*_, _-_, _≤_}
 use lib.ListN.{drop, length, take}
 use borrow.Author.Needs.{needs}
-use Rattle.fingerprint_table.specs.Salts.{noSalt, saltFrom, saltOf}
-use Rattle.fingerprint_table.proofs.Laws.Salts.{no-high, no-low, no-salt, salt-begins, salt-ends, salt-goes-on}
-use Rattle.fingerprint_table.proofs.salts.salt_in.Statement.{statement}
-use Rattle.fingerprint_table.proofs.salts.salt_in.Tie as tie
+use Rattle.digits.specs.Salts.{noSalt, saltFrom, saltOf}
+use Rattle.digits.proofs.Laws.Salts.{no-high, no-low, no-salt, salt-begins, salt-ends, salt-goes-on}
+use Rattle.digits.proofs.salts.salt_in.Statement.{statement}
+use Rattle.digits.proofs.salts.salt_in.Tie as tie
 
 abbrev Inv-loop : tie.InvT-loop
 Inv-loop word none bytes₀ i₀ bytes i =

@@ -1,11 +1,11 @@
--- Which words of the command line are a salt, and which salt they are. Assumes nothing.
+-- Which words are a salt, and which salt they are. Assumes nothing.
 use mathlib.Core.Bool.{true, false, cond, _&&_}
 use mathlib.Core.List.{List, [], _∷_, _++_}
 use Prim.Native.Nat.{ℕ, _+_, _*_}
 use lib.Dec.{eqb, leb}
 use lib.ListN.{length, replicate}
-use Rattle.fingerprint_table.specs.declared.salts.Salt.{Salt}
-use Rattle.fingerprint_table.specs.Hexadecimal.{nibbleOf}
+use Rattle.digits.specs.declared.salts.Salt.{Salt}
+use Rattle.digits.specs.Hexadecimal.{nibbleOf}
 
 abbrev pub noSalt : Salt
 noSalt = record { «is_good» = false; bytes = replicate 16 0 }

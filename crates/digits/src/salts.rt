@@ -1,15 +1,15 @@
-// Salts on the command line.
+// Salts in hex.
 ghost use mathlib.Core.Path.{_≡_};
-ghost use Rattle.fingerprint_table.specs.Salts.{saltOf};
+ghost use Rattle.digits.specs.Salts.{saltOf};
 use super::hexadecimal::nibble;
 
-pub(crate) struct Salt {
+pub struct Salt {
     pub is_good: bool,
     pub bytes: [u8; 16],
 }
 
 // Thirty-two hex digits.
-pub(crate) fn salt_in(word: &[u8]) -> Salt
+pub fn salt_in(word: &[u8]) -> Salt
     ensures { λ r. ⌜ r ≡ saltOf (now (word .entry)) ⌝ }
 {
     let none = Salt {

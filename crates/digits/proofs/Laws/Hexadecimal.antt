@@ -3,7 +3,7 @@ use mathlib.Core.Path.{_≡_}
 use Prim.Native.Nat.{ℕ, _+_, _-_, _<_, _≤_}
 use native.Mathlib.Omega.{arith}
 use borrow.Author.Tests.{le-leb, le-ltb, lt-leb, lt-ltb}
-use Rattle.fingerprint_table.specs.Hexadecimal.{nibbleOf}
+use Rattle.digits.specs.Hexadecimal.{nibbleOf}
 
 module _ (x : ℕ) where
   pub before-digits : x < 48 → 16 ≡ nibbleOf x

@@ -1,9 +1,9 @@
 // The values of hex digits.
 ghost use mathlib.Core.Path.{_≡_};
-ghost use Rattle.fingerprint_table.specs.Hexadecimal.{nibbleOf};
+ghost use Rattle.digits.specs.Hexadecimal.{nibbleOf};
 
 // The value of a hex digit of either case, and 16 for any other byte.
-pub(crate) fn nibble(digit: u8) -> u8
+pub fn nibble(digit: u8) -> u8
     ensures { λ r. ⌜ r ≡ nibbleOf digit ⌝ }
 {
     if digit < b'0' {

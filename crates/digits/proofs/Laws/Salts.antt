@@ -8,9 +8,9 @@ use native.Mathlib.Omega.{arith}
 use borrow.Author.Tests.{eq-eqb, le-leb, lt-leb, ne-eqb}
 use lib.ListN.{drop, getD, length, set, take}
 use lib.Seq.{drop-cons, drop-length, take-all, take-suc-set}
-use Rattle.fingerprint_table.specs.declared.salts.Salt.{Salt}
-use Rattle.fingerprint_table.specs.Hexadecimal.{nibbleOf}
-use Rattle.fingerprint_table.specs.Salts.{noSalt, saltFrom, saltOf}
+use Rattle.digits.specs.declared.salts.Salt.{Salt}
+use Rattle.digits.specs.Hexadecimal.{nibbleOf}
+use Rattle.digits.specs.Salts.{noSalt, saltFrom, saltOf}
 
 module _ (word : List ℕ) where
   pub no-salt : (length word ≡ 32 → ⊥) → noSalt ≡ saltOf word

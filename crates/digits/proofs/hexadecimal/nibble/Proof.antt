@@ -1,8 +1,8 @@
 -- `nibble` meets its contract: its tests are the definition's, in the same order. Assumes nothing.
 use borrow.Author.Needs.{needs}
-use Rattle.fingerprint_table.proofs.Laws.Hexadecimal.{before-capitals, before-digits, before-small, behind-small, capital, digit, small}
-use Rattle.fingerprint_table.proofs.hexadecimal.nibble.Statement.{statement}
-use Rattle.fingerprint_table.proofs.hexadecimal.nibble.Tie as tie
+use Rattle.digits.proofs.Laws.Hexadecimal.{before-capitals, before-digits, before-small, behind-small, capital, digit, small}
+use Rattle.digits.proofs.hexadecimal.nibble.Statement.{statement}
+use Rattle.digits.proofs.hexadecimal.nibble.Tie as tie
 
 returns : tie.Need-returns
 returns c = search before-digits

@@ -6,6 +6,7 @@ use bahmorist::{Mode, Refusal};
 const HEADER: &str = include_str!("../../../include/bahmorist.h");
 const FACE: &str = include_str!("../src/face.rs");
 const USING: &str = include_str!("../../../docs/USING.md");
+const MANUAL: &str = include_str!("../../../man/list_table.1");
 
 /// The numbers that the header gives to names with this beginning.
 fn numbers(beginning: &str) -> Vec<(&'static str, u8)> {
@@ -191,6 +192,22 @@ fn the_page_has_the_kinds_that_the_library_reads() {
         let kind = u8::from_str_radix(cells.next().unwrap_or(""), 16);
         let body = cells.next().unwrap_or("").split(' ').next().unwrap_or("");
         (kind.expect("a kind"), body.parse().expect("a length"))
+    });
+    assert_eq!(listed.collect::<Vec<(u8, usize)>>(), read_kinds());
+}
+
+/// The same by the manual: an item for a kind in hex, whose text ends with the bytes of its
+/// body.
+#[test]
+fn the_manual_has_the_kinds_that_the_library_reads() {
+    let lines: Vec<&str> = MANUAL.lines().collect();
+    let listed = lines.windows(2).filter_map(|pair| {
+        let kind = pair[0]
+            .strip_prefix(".It ")
+            .filter(|item| item.len() == 2)?;
+        let kind = u8::from_str_radix(kind, 16).ok()?;
+        let (_, body) = pair[1].strip_suffix(" bytes")?.rsplit_once(' ')?;
+        Some((kind, body.parse().ok()?))
     });
     assert_eq!(listed.collect::<Vec<(u8, usize)>>(), read_kinds());
 }

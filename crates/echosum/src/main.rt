@@ -1,5 +1,8 @@
 // Prints the ECHO digest of each file that is named, or of standard input: echosum [-1] [-b BITS] [-s SALT] [FILE...]. Every line is one write.
+mod bytes;
 mod hexadecimal;
+mod listed;
+mod names;
 mod options;
 mod saying;
 mod summing;

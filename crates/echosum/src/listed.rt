@@ -7,7 +7,8 @@
 ghost use Prim.Native.Nat.{_≤_};
 ghost use mathlib.Core.Path.{_≡_};
 ghost use lib.ListN.{length};
-ghost use Rattle.echosum.specs.Listed.{bitsFor, framedOf, gapOf, headOf, isAdmitted, listedOf, markIn, modeOf, noHead, noListed, plainOf, plainTo, taggedOf};
+ghost use Rattle.echosum.specs.Listed.{bitsFor, framedOf, gapOf, headOf, isAdmitted, listedOf, markIn, modeOf};
+ghost use Rattle.echosum.specs.Listed.{noHead, noListed, plainOf, plainTo, taggedOf};
 use super::bytes::is_same;
 use super::hexadecimal::digits_in;
 use super::hexadecimal::hex_in;

@@ -1,11 +1,12 @@
 -- What a line of a list says, from the tests that led to it. Assumes nothing.
 use mathlib.Core.Path.{_≡_, _∙_, refl, sym}
-use mathlib.Core.Bool.{Bool, true, false, not}
+use mathlib.Core.Bool.{Bool, true, false, cond, not}
 use mathlib.Core.List.{List, [], _∷_}
 use Prim.Native.Nat.{ℕ, _+_, _*_, _-_, _/_, _%_, _<_, _≤_, _^_}
+use native.Mathlib.Nat.{le-refl}
 use native.Mathlib.Omega.{arith}
-use borrow.Author.Tests.{eq-eqb, le-ltb, lt-ltb, ne-eqb, not-false, not-true}
-use lib.Dec.{eqb}
+use borrow.Author.Tests.{eq-eqb, le-ltb, lt-ltb, ltb-false, ne-eqb, not-false, not-true}
+use lib.Dec.{eqb, ltb}
 use lib.ListN.{getD, length, length-drop, length-take}
 use Rattle.echosum.specs.declared.hexadecimal.Hex.{Hex}
 use Rattle.echosum.specs.declared.listed.Head.{Head}
@@ -264,3 +265,80 @@ module _ (line : List ℕ) (terms : Terms) (at : ℕ) (p : at ≡ markIn line) (
   pub it-is-plain : tagged .«is_good» ≡ false → (r : Listed) → r ≡ plainOf line at terms → r ≡ listedOf line terms
   unfolding listedOf
   it-is-plain t r e = e ∙ rw (← p, ← q, t)
+
+-- ---- where the name stands
+
+pub record Within (line : List ℕ) (r : Listed) : Type 0 where
+  pub starts : r .from ≤ r .to
+  pub ends : r .to ≤ length line
+
+module _ (line : List ℕ) where
+  none-within : Within line noListed
+  none-within = record { starts = omega arith; ends = omega arith }
+
+  either : (b : Bool) {x y : Listed} → (b ≡ true → Within line x) → (b ≡ false → Within line y) → Within line (cond b x y)
+  either true f g = f refl
+  either false f g = g refl
+
+  plain-within : (at : ℕ) (terms : Terms) (end bits : ℕ) → Within line (plainTo line at terms end bits)
+  unfolding plainTo
+  plain-within at terms end bits =
+      either (eqb bits 0)
+      (λ _. none-within)
+      (λ _.
+      either (ltb (length line - end) 3)
+      (λ _. none-within)
+      (λ h.
+      let w : end + 2 ≤ length line = omega (arith, ltb-false (length line - end) 3 h) in
+      either (gapOf (getD line end 0) (getD line (end + 1) 0))
+      (λ _.
+      either (isName (eqb at 1) (part (end + 2) (length line) line))
+      (λ _. record { starts = w; ends = le-refl (length line) })
+      (λ _. none-within))
+      (λ _. none-within)))
+
+  tagged-within : (at : ℕ) (head : Head) (from begin : ℕ) → from ≤ begin - 4 → begin - 4 ≤ length line
+      → Within line (taggedTo line at head from begin)
+  unfolding taggedTo
+  tagged-within at head from begin p q =
+      either (sameOf (part (begin - 4) begin line) closes)
+      (λ _.
+      either (isName (eqb at 1) (part from (begin - 4) line))
+      (λ _. either (hexOf (part begin (length line) line) .«is_good») (λ _. record { starts = p; ends = q }) (λ _. none-within))
+      (λ _. none-within))
+      (λ _. none-within)
+
+  behind-within : (at : ℕ) (head : Head) → Within line (taggedBy line at head)
+  unfolding taggedBy
+  behind-within at head =
+      either (head .«is_good»)
+      (λ _.
+      either (ltb (length line - (at + 50)) (head .bits / 4 + 4))
+      (λ _. none-within)
+      (λ h.
+      let l = ltb-false (length line - (at + 50)) (head .bits / 4 + 4) h in
+      tagged-within at head (at + 50) (length line - head .bits / 4) (omega (arith, l)) (omega arith)))
+      (λ _. none-within)
+
+  tag-within : (at : ℕ) → Within line (taggedOf line at)
+  unfolding taggedOf
+  tag-within at = either (ltb (length line - at) 50) (λ _. none-within) (λ _. behind-within at (headOf (part at (at + 50) line)))
+
+  untagged-within : (at : ℕ) (terms : Terms) → Within line (plainOf line at terms)
+  unfolding plainOf
+  untagged-within at terms = plain-within at terms _ _
+
+  listed-within : (terms : Terms) → Within line (listedOf line terms)
+  unfolding listedOf
+  listed-within terms =
+      either (taggedOf line (markIn line) .«is_good») (λ _. tag-within (markIn line)) (λ _. untagged-within (markIn line) terms)
+
+  module _ (terms : Terms) (r : Listed) (e : r ≡ listedOf line terms) where
+    pub name-within : Within line r
+    name-within = rw e (listed-within terms)
+
+    pub name-starts : r .from ≤ r .to
+    name-starts = name-within .starts
+
+    pub name-ends : r .to ≤ length line
+    name-ends = name-within .ends

@@ -9,7 +9,14 @@ use Rattle.echosum.proofs.hexadecimal.hex_in.Statement.{statement}
 use Rattle.echosum.proofs.hexadecimal.hex_in.Tie as tie
 
 abbrev Inv-loop : tie.InvT-loop
-Inv-loop text none pairs bytes₀ i₀ bytes i = (i ≤ pairs) × (pairs ≡ length text / 2) × (length text ≤ 128) × (length bytes ≡ 64) × (none ≡ noHex) × (drop i bytes ≡ drop i (replicate 64 0)) × (hexOf text ≡ hexFrom (take i bytes) (drop (2 * i) text))
+Inv-loop text none pairs bytes₀ i₀ bytes i =
+    (i ≤ pairs)
+    × (pairs ≡ length text / 2)
+    × (length text ≤ 128)
+    × (length bytes ≡ 64)
+    × (none ≡ noHex)
+    × (drop i bytes ≡ drop i (replicate 64 0))
+    × (hexOf text ≡ hexFrom (take i bytes) (drop (2 * i) text))
 
 abbrev μ-loop : tie.MeasureT-loop
 μ-loop text none pairs bytes₀ i₀ bytes i = pairs - i

@@ -12,7 +12,11 @@ use Rattle.echosum.proofs.names.put_unescaped.Statement.{statement}
 use Rattle.echosum.proofs.names.put_unescaped.Tie as tie
 
 abbrev Inv-loop : tie.InvT-loop
-Inv-loop room₀ text end₀ is-open₀ i₀ i-end room end is-open i = (i ≤ i-end) × (i-end ≡ length text) × (is-open ≡ openedAfter false (take i text)) × Put room₀ 0 (unescaped (take i text)) room end
+Inv-loop room₀ text end₀ is-open₀ i₀ i-end room end is-open i =
+    (i ≤ i-end)
+    × (i-end ≡ length text)
+    × (is-open ≡ openedAfter false (take i text))
+    × Put room₀ 0 (unescaped (take i text)) room end
 
 abbrev μ-loop : tie.MeasureT-loop
 μ-loop room₀ text end₀ is-open₀ i₀ i-end room end is-open i = i-end - i

@@ -93,15 +93,35 @@ pub fn line(mode: Mode, bits: u64, salt: &[u8], message: &[u8], name: &str) -> S
 }
 
 /// The line of a digest that names bits, mode and salt.
-fn tagged(mode: Mode, bits: u64, salt: &[u8; 16], message: &[u8], name: &str) -> String {
+fn tagged(mode: Mode, bits: u64, salt: &[u8], message: &[u8], name: &str) -> String {
+    let salt = salt.try_into().expect("sixteen bytes");
     let word = match mode {
         DoublePipe => "double",
         SinglePipe => "single",
     };
-    let digest = hex::encode(&digest::digest(mode, bits, salt, message));
-    let salt = hex::encode(salt);
+    let digest = hex::encode(&digest::digest(mode, bits, &salt, message));
+    let salt = hex::encode(&salt);
     let before = format!("ECHO-{bits:03}-{word}-{salt} (");
     named(&before, name, &format!(") = {digest}"))
+}
+
+/// What a line of a list is made by.
+type Line = fn(Mode, u64, &[u8], &[u8], &str) -> String;
+
+/// What is printed of a file in a list.
+fn result(name: &str, what: &str) -> String {
+    match name.contains('\n') {
+        true => named("", name, &format!(": {what}")),
+        false => format!("{name}: {what}\n"),
+    }
+}
+
+/// Another digit.
+fn other(digit: &str) -> &str {
+    match digit {
+        "0" => "1",
+        _ => "0",
+    }
 }
 
 /// A line with a name in it, escaped as `sha256sum` does.
@@ -155,6 +175,27 @@ fn jobs(folder: &Path) -> Vec<Job> {
             .map(|name| tagged(mode, bits, &salt, &content(name), name));
         job(words, lines.collect(), "")
     };
+    // Lists come on standard input.
+    let checks = |words: &[&str], list: String, output: String, said: &str| Job {
+        pieces: at_once(list.into()),
+        ..job(words, output, said)
+    };
+    let right = |mode, words: &[&str], bits, salt: [u8; 16], of: Line| {
+        let names = FILES.map(|(name, _)| name);
+        let list = names.map(|name| of(mode, bits, &salt, &content(name), name));
+        let output = names.map(|name| result(name, "OK"));
+        checks(words, list.concat(), output.concat(), "")
+    };
+    let wrong = |list: String, name: &str| {
+        let said = "echosum: WARNING: 1 computed checksum did NOT match\n";
+        checks(&["-c"], list, result(name, "FAILED"), said)
+    };
+    let improper = |list: String| {
+        let said = "echosum: standard input: no properly formatted checksum lines found\n";
+        checks(&["-c"], list, String::new(), said)
+    };
+    let short = line(DoublePipe, 256, &ZEROS, &content("short"), "short");
+    let short_tagged = tagged(SinglePipe, 512, &SALT, &content("short"), "short");
     let attached = |flag: &str, value: &str| format!("{flag}{value}");
     let salt_attached = attached("-s", SALT_WORD);
     let zero_lines = |lines: &[(&str, &str)]| -> String {
@@ -356,6 +397,23 @@ fn jobs(folder: &Path) -> Vec<Job> {
             )]),
             "",
         ),
+        right(DoublePipe, &["-c"], 256, ZEROS, line),
+        right(SinglePipe, &["-c", "-1", &salt_attached], 512, SALT, line),
+        right(DoublePipe, &["--check", "-b128"], 128, ZEROS, line),
+        right(DoublePipe, &["-c", "-1", "-b128"], 256, SALT, tagged),
+        right(SinglePipe, &["-c"], 384, ZEROS, tagged),
+        // The first digit and the last one are another.
+        wrong(format!("{}{}", other(&short[..1]), &short[1..]), "short"),
+        wrong(
+            format!("{}{}{}", &short[..63], other(&short[63..64]), &short[64..]),
+            "short",
+        ),
+        // Another mode, and other digits than the bits ask for.
+        wrong(short_tagged.replace("single", "double"), "short"),
+        improper(short_tagged[..short_tagged.len() - 65].to_string() + "\n"),
+        improper(short_tagged.replace("512", "256")),
+        improper(short[1..].into()),
+        improper(format!("\\{}", short.replace('o', "\\o"))),
         job(&["--version"], VERSION.into(), ""),
         job(&["short", "--version", "-x"], VERSION.into(), ""),
         help(&["-h"]),

@@ -1,2 +1,5 @@
+pub mod Bytes
 pub mod Hexadecimal
+pub mod Listed
+pub mod Names
 pub mod Words

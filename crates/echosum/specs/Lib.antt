@@ -1,3 +1,6 @@
 -- What the contracts of this crate mean. A word of the command line is a list of bytes, and a byte a number below 256.
+pub mod Bytes
 pub mod Hexadecimal
+pub mod Listed
+pub mod Names
 pub mod Words

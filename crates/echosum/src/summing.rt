@@ -1,18 +1,40 @@
 // The digest of a file, and the line that is printed of it.
 use super::saying::say_too_long;
 use super::saying::say_why;
+use super::style::Style;
+use super::style::put_line;
+use echo::Mode;
 use echo::Session;
+use libc::ENOENT;
 use libc::STDIN_FILENO;
 use libc::STDOUT_FILENO;
-use lines::put;
-use lines::put_hex;
-use lines::put_named;
 
 // A session that has taken what was read so far, whether there may be more, and whether it has taken the whole file.
 struct Progress {
     goes_on: bool,
     is_whole: bool,
     session: Session,
+}
+
+// How a file or a list went: whether there may be more of them, which ends where standard output can't be written, and whether all is well.
+pub(crate) struct Outcome {
+    pub goes_on: bool,
+    pub is_good: bool,
+}
+
+// The digest of a whole file, with zeros behind it; or none, and whether that is since the file is missing.
+pub(crate) struct Summed {
+    pub is_whole: bool,
+    pub is_missing: bool,
+    pub digest: [u8; 64],
+}
+
+pub(crate) fn mode_of(is_single: bool) -> Mode {
+    if is_single {
+        Mode::SinglePipe
+    } else {
+        Mode::DoublePipe
+    }
 }
 
 // Reads once and adds what came. What goes wrong is said here.
@@ -69,26 +91,33 @@ fn add_all(fd: i32, name: &[u8], session: Session) -> Progress {
     progress
 }
 
-// The digest in hex, two spaces and the name. Answers whether that was written, and says it where not. A room holds a name of 4,096 bytes,
-// each of them escaped, and what stands around it.
-fn print_line(digest: &[u8], name: &[u8]) -> bool {
-    let mut text = [0u8; 130];
-    let spelled = put_hex(&mut text, 0, digest);
-    let spaced = put(&mut text, spelled, b"  ");
+// Prints the line of a digest, and says it where that can't be written. A room holds a name of 4,096 bytes, each of them escaped, and what
+// stands around it.
+fn print_line(digest: &[u8], name: &[u8], style: Style) -> Outcome {
     let mut line = [0u8; 8448];
-    let end = put_named(&mut line, 0, &text[0..spaced], name, b"\n");
+    let end = put_line(&mut line, style, digest, name);
     let is_written = io::write_all(STDOUT_FILENO, &line[0..end]);
     if !is_written {
         say_why(b"standard output");
     }
-    is_written
+    Outcome {
+        goes_on: is_written,
+        is_good: is_written,
+    }
 }
 
-// The line of what is read from `fd`, or why there is none. Answers false where a line was not written.
-fn sum(session: Session, fd: i32, name: &[u8]) -> bool {
+fn failed() -> Outcome {
+    Outcome {
+        goes_on: true,
+        is_good: false,
+    }
+}
+
+// The line of what is read from `fd`, or why there is none.
+fn sum(session: Session, fd: i32, name: &[u8], style: Style) -> Outcome {
     let progress = add_all(fd, name, session);
     if !progress.is_whole {
-        return true;
+        return failed();
     }
     let whole = progress.session;
     let mut room = [0u8; 64];
@@ -96,23 +125,78 @@ fn sum(session: Session, fd: i32, name: &[u8]) -> bool {
     // No opened session is refused here. That this one was not shows that its digest fits the room.
     let refused = reading.refusal;
     if refused != 0 {
-        return true;
+        return failed();
     }
     let n = (whole.bits / 8) as usize;
-    print_line(&room[0..n], name)
+    print_line(&room[0..n], name, style)
 }
 
-// A dash is standard input. Answers as `sum` does.
-pub(crate) fn sum_named(session: Session, name: &[u8]) -> bool {
-    if name.len() == 1 && name[0] == b'-' {
-        return sum(session, STDIN_FILENO, name);
+// A dash is standard input.
+pub(crate) fn is_dash(name: &[u8]) -> bool {
+    if name.len() != 1 {
+        return false;
+    }
+    name[0] == b'-'
+}
+
+pub(crate) fn sum_named(session: Session, name: &[u8], style: Style) -> Outcome {
+    if is_dash(name) {
+        return sum(session, STDIN_FILENO, name, style);
     }
     let fd = os::open_read(name);
     if fd < 0 {
         say_why(name);
-        return true;
+        return failed();
     }
-    let goes_on = sum(session, fd, name);
+    let outcome = sum(session, fd, name, style);
     libc::close(fd);
-    goes_on
+    outcome
+}
+
+fn none_summed(is_missing: bool) -> Summed {
+    Summed {
+        is_whole: false,
+        is_missing: is_missing,
+        digest: [0; 64],
+    }
+}
+
+// The digest of what is read from `fd`.
+fn digest_of(session: Session, fd: i32, name: &[u8]) -> Summed {
+    let progress = add_all(fd, name, session);
+    if !progress.is_whole {
+        return none_summed(false);
+    }
+    let whole = progress.session;
+    let mut room = [0u8; 64];
+    let reading = whole.read(&mut room);
+    let refused = reading.refusal;
+    if refused != 0 {
+        return none_summed(false);
+    }
+    Summed {
+        is_whole: true,
+        is_missing: false,
+        digest: room,
+    }
+}
+
+// The digest of a file. Where missing files are passed over, that one is missing is not said.
+pub(crate) fn digest_named(session: Session, name: &[u8], passes_missing: bool) -> Summed {
+    if is_dash(name) {
+        return digest_of(session, STDIN_FILENO, name);
+    }
+    let fd = os::open_read(name);
+    if fd < 0 {
+        if passes_missing {
+            if os::errno() == ENOENT {
+                return none_summed(true);
+            }
+        }
+        say_why(name);
+        return none_summed(false);
+    }
+    let summed = digest_of(session, fd, name);
+    libc::close(fd);
+    summed
 }

@@ -1,6 +1,7 @@
 // What a word of the command line is.
 ghost use mathlib.Core.Path.{_≡_};
 ghost use Rattle.echosum.specs.Words.{numberOf, saltOf};
+use super::bytes::is_same;
 use super::hexadecimal::nibble;
 
 pub(crate) struct Number {
@@ -33,6 +34,14 @@ pub(crate) fn is_dashed(word: &[u8]) -> bool {
         return false;
     }
     word[0] == b'-'
+}
+
+pub(crate) fn begins_with(word: &[u8], front: &[u8]) -> bool {
+    if word.len() < front.len() {
+        return false;
+    }
+    let n = front.len();
+    is_same(&word[0..n], front)
 }
 
 // One to sixteen decimal digits, so that the value fits.

@@ -42,7 +42,10 @@ const fn midway(command: &'static str, before: &'static [u8], said: &'static str
 const RECORD: &[u8] = &[2, 0, 0x3c];
 const SALTED: &[u8] = b"0123456789abcdef\x02\x00\x3c";
 
-const CASES: [Broken; 21] = [
+/// A list whose line is properly formatted, and does not match.
+const LIST: &[u8] = b"00000000000000000000000000000000  table\n";
+
+const CASES: [Broken; 26] = [
     case(
         "list_table <.",
         "list_table: standard input: Is a directory\n",
@@ -98,6 +101,20 @@ const CASES: [Broken; 21] = [
         "echosum --help >/dev/full",
         "echosum: standard output: No space left on device\n",
     ),
+    case(
+        "echosum --version >&-",
+        "echosum: standard output: Bad file descriptor\n",
+    ),
+    case("echosum -c <.", "echosum: standard input: Is a directory\n"),
+    case(
+        "echosum -c <&-",
+        "echosum: standard input: Bad file descriptor\n",
+    ),
+    case(
+        "echosum -c list list >/dev/full",
+        "echosum: standard output: No space left on device\n",
+    ),
+    case("echosum missing 2>&-", ""),
     case("list_table <. 2>&-", ""),
     midway(
         "list_table",
@@ -137,7 +154,8 @@ const DIRECT: [Broken; 4] = [
 fn run(run: &mut Run) -> Result<(), String> {
     let folder = Folder::new("descriptors")?
         .with("table", RECORD)?
-        .with("salted", SALTED)?;
+        .with("salted", SALTED)?
+        .with("list", LIST)?;
     for case in CASES {
         check(&case, &folder, [RUN, " "], 1)?;
         run.count(1);

@@ -15,10 +15,41 @@ pub const FAMILY: Family = Family {
 
 pub const NAME: &str = "echosum";
 
-const USAGE: &str = "usage: echosum [-1] [-b BITS] [-s SALT] [FILE...]";
+/// What is said behind a word that can't be taken.
+const USAGE: &str = "usage: echosum [-1] [-b BITS] [-s SALT] [-c] [FILE...]; see echosum --help";
 
-/// What `--help` prints behind the usage.
-const HELP: &str = "Prints the ECHO digest of each FILE, or of standard input, double-pipe or, with -1, single-pipe. BITS is 128 to 512 by eights, and 256 where not given; SALT is 32 hex digits, and zeros where not given.";
+/// What `--help` prints.
+const HELP: &str = "\
+usage: echosum [-1] [-b BITS] [-s SALT] [--tag] [-z] [FILE...]
+  or:  echosum -c [-1] [-b BITS] [-s SALT] [OPTION...] [FILE...]
+Prints the ECHO digest of each FILE, or checks the files that are listed in each FILE.
+No FILE, or -, is standard input.
+
+  -1                    single-pipe; double-pipe where not given
+  -b BITS               length of the digest, 128 to 512 by eights; 256 where not given
+  -s SALT               32 hex digits; zeros where not given
+      --tag             print lines that name bits, mode and salt
+  -z, --zero            end each line with a zero byte, and escape no name
+  -c, --check           read lines of digests from each FILE and check the files that they name
+  -h, --help            print this
+      --version         print the version
+      --verdict-fd=N    write the status to descriptor N, 3 to 9, as tools/run asks
+      --                each word behind this is a FILE
+
+With -c only:
+      --quiet           don't print OK for a file that matches
+      --status          print no results and no warnings: the status tells
+      --strict          fail where a line is improperly formatted
+      --ignore-missing  pass over files that are missing
+
+With -c, a line with a tag has bits, mode and salt of its own. One without has as many bits as its
+digits say, those of -b where that is given, and the mode and the salt of -1 and -s.
+
+Status: 0 where all is well. 1 where a word is bad, a file or list can't be read, or the output
+can't be written; with -c, where a file does not match too, or where a list has none that does.
+";
+
+const VERSION: &str = "echosum (Bahmorist) 0.8.0\n";
 
 const ZEROS: [u8; 16] = [0; 16];
 const SALT: [u8; 16] = *b"\x00\x0a\xa0\xff456789abcdef";
@@ -61,6 +92,38 @@ pub fn line(mode: Mode, bits: u64, salt: &[u8], message: &[u8], name: &str) -> S
     named(&format!("{}  ", hex::encode(&digest)), name, "")
 }
 
+/// The line of a digest that names bits, mode and salt.
+fn tagged(mode: Mode, bits: u64, salt: &[u8], message: &[u8], name: &str) -> String {
+    let salt = salt.try_into().expect("sixteen bytes");
+    let word = match mode {
+        DoublePipe => "double",
+        SinglePipe => "single",
+    };
+    let digest = hex::encode(&digest::digest(mode, bits, &salt, message));
+    let salt = hex::encode(&salt);
+    let before = format!("ECHO-{bits:03}-{word}-{salt} (");
+    named(&before, name, &format!(") = {digest}"))
+}
+
+/// What a line of a list is made by.
+type Line = fn(Mode, u64, &[u8], &[u8], &str) -> String;
+
+/// What is printed of a file in a list.
+fn result(name: &str, what: &str) -> String {
+    match name.contains('\n') {
+        true => named("", name, &format!(": {what}")),
+        false => format!("{name}: {what}\n"),
+    }
+}
+
+/// Another digit.
+fn other(digit: &str) -> &str {
+    match digit {
+        "0" => "1",
+        _ => "0",
+    }
+}
+
 /// A line with a name in it, escaped as `sha256sum` does.
 pub fn named(before: &str, name: &str, after: &str) -> String {
     let mark = match name.contains(['\\', '\n', '\r']) {
@@ -101,7 +164,47 @@ fn jobs(folder: &Path) -> Vec<Job> {
         let said = format!("echosum: no value behind {flag} ({USAGE})\n");
         job(words, String::new(), &said)
     };
-    let help = |words: &[&str]| job(words, format!("{USAGE}\n{HELP}\n"), "");
+    let help = |words: &[&str]| job(words, HELP.into(), "");
+    let without = |words: &[&str], what: &str| {
+        let said = format!("echosum: the {what} when verifying checksums\n");
+        job(words, String::new(), &said)
+    };
+    let tags = |mode, words: &[&str], bits, salt: [u8; 16], names: &[&str]| {
+        let lines = names
+            .iter()
+            .map(|name| tagged(mode, bits, &salt, &content(name), name));
+        job(words, lines.collect(), "")
+    };
+    // Lists come on standard input.
+    let checks = |words: &[&str], list: String, output: String, said: &str| Job {
+        pieces: at_once(list.into()),
+        ..job(words, output, said)
+    };
+    let right = |mode, words: &[&str], bits, salt: [u8; 16], of: Line| {
+        let names = FILES.map(|(name, _)| name);
+        let list = names.map(|name| of(mode, bits, &salt, &content(name), name));
+        let output = names.map(|name| result(name, "OK"));
+        checks(words, list.concat(), output.concat(), "")
+    };
+    let wrong = |list: String, name: &str| {
+        let said = "echosum: WARNING: 1 computed checksum did NOT match\n";
+        checks(&["-c"], list, result(name, "FAILED"), said)
+    };
+    let improper = |list: String| {
+        let said = "echosum: standard input: no properly formatted checksum lines found\n";
+        checks(&["-c"], list, String::new(), said)
+    };
+    let short = line(DoublePipe, 256, &ZEROS, &content("short"), "short");
+    let short_tagged = tagged(SinglePipe, 512, &SALT, &content("short"), "short");
+    let attached = |flag: &str, value: &str| format!("{flag}{value}");
+    let salt_attached = attached("-s", SALT_WORD);
+    let zero_lines = |lines: &[(&str, &str)]| -> String {
+        let lines = lines
+            .iter()
+            .map(|(before, after)| format!("{before}{after}\0"));
+        lines.collect()
+    };
+    let hex_of = |name: &str| hex::encode(&digest::digest(DoublePipe, 256, &ZEROS, &content(name)));
     let bad_bits = |bits: &str| {
         let said = format!("echosum: bad bits {bits}\n");
         job(&["-b", bits, "short"], String::new(), &said)
@@ -219,13 +322,102 @@ fn jobs(folder: &Path) -> Vec<Job> {
         bad_word(&["-b", "abc", "short"], "abc"),
         bad_word(&["-b", "", "short"], ""),
         bad_word(&["-b", "-256", "short"], "-256"),
-        bad_word(&["-b256", "short"], "-b256"),
+        // A value may stand behind its flag in the same word.
+        good(&["-b256", "short"], 256, ZEROS, &["short"]),
+        good(&["-b0512", "short", "-"], 512, ZEROS, &["short", "-"]),
+        good(&[&salt_attached, "block"], 256, SALT, &["block"]),
+        single(&[&salt_attached, "-1", "-b128"], 128, SALT, &["-"]),
+        bad_word(&["-babc", "short"], "-babc"),
+        bad_word(&["-b-256", "short"], "-b-256"),
+        bad_word(&["-s00", "short"], "-s00"),
+        bad_word(&["-c1", "short"], "-c1"),
+        bad_word(&["-zc", "short"], "-zc"),
         bad_word(&["-s", "00", "short"], "00"),
         bad_word(&["-s", &long_salt, "short"], &long_salt),
         bad_word(&["-s", &odd_salt, "short"], &odd_salt),
         bad_word(&["-x", "short"], "-x"),
         bad_word(&["short", "-y", "-x"], "-y"),
         bad_word(&["-\n"], "-\n"),
+        bad_word(&["--chek", "short"], "--chek"),
+        bad_word(&["--tagged", "short"], "--tagged"),
+        bad_word(&["--verdict-fd=2", "short"], "--verdict-fd=2"),
+        bad_word(&["--verdict-fd=10", "short"], "--verdict-fd=10"),
+        bad_word(&["--verdict-fd=", "short"], "--verdict-fd="),
+        bad_word(&["--verdict-fd=x", "short"], "--verdict-fd=x"),
+        bad_word(&["--verdict-fd", "3", "short"], "--verdict-fd"),
+        // The first of these words counts, which is that of tools/run.
+        good(&["--verdict-fd=3", "short"], 256, ZEROS, &["short"]),
+        without(&["--quiet", "short"], "--quiet option is meaningful only"),
+        without(&["--status", "short"], "--status option is meaningful only"),
+        without(&["--strict", "short"], "--strict option is meaningful only"),
+        without(
+            &["--ignore-missing", "short"],
+            "--ignore-missing option is meaningful only",
+        ),
+        without(&["-c", "--tag", "short"], "--tag option is meaningless"),
+        without(
+            &["-z", "short", "--check"],
+            "--zero option is not supported",
+        ),
+        without(&["--zero", "-c", "--tag"], "--zero option is not supported"),
+        tags(DoublePipe, &["--tag"], 256, ZEROS, &["-"]),
+        tags(
+            SinglePipe,
+            &["--tag", "-1", "-b", "128", "short", &salt_attached, "large"],
+            128,
+            SALT,
+            &["short", "large"],
+        ),
+        tags(
+            DoublePipe,
+            &[
+                "line\nend",
+                "--tag",
+                "-b512",
+                "carriage\rreturn",
+                "back\\slash\n",
+            ],
+            512,
+            ZEROS,
+            &["line\nend", "carriage\rreturn", "back\\slash\n"],
+        ),
+        job(
+            &["-z", "back\\slash\n", "short"],
+            zero_lines(&[
+                (&hex_of("back\\slash\n"), "  back\\slash\n"),
+                (&hex_of("short"), "  short"),
+            ]),
+            "",
+        ),
+        job(
+            &["--zero", "--tag", "line\nend"],
+            zero_lines(&[(
+                "ECHO-256-double-00000000000000000000000000000000 (line\nend) = ",
+                &hex_of("line\nend"),
+            )]),
+            "",
+        ),
+        right(DoublePipe, &["-c"], 256, ZEROS, line),
+        right(SinglePipe, &["-c", "-1", &salt_attached], 512, SALT, line),
+        right(DoublePipe, &["--check", "-b128"], 128, ZEROS, line),
+        right(DoublePipe, &["-c", "-1", "-b128"], 256, SALT, tagged),
+        right(SinglePipe, &["-c"], 384, ZEROS, tagged),
+        // The first digit and the last one are another.
+        wrong(format!("{}{}", other(&short[..1]), &short[1..]), "short"),
+        wrong(
+            format!("{}{}{}", &short[..63], other(&short[63..64]), &short[64..]),
+            "short",
+        ),
+        // Another mode, and other digits than the bits ask for.
+        wrong(short_tagged.replace("single", "double"), "short"),
+        improper(short_tagged[..short_tagged.len() - 65].to_string() + "\n"),
+        improper(short_tagged.replace("512", "256")),
+        improper(short[1..].into()),
+        improper(format!("\\{}", short.replace('o', "\\o"))),
+        job(&["--version"], VERSION.into(), ""),
+        job(&["short", "--version", "-x"], VERSION.into(), ""),
+        help(&["-h"]),
+        help(&["-c", "-h", "-x"]),
         help(&["--help"]),
         help(&["short", "--help", "-x"]),
         help(&["-1", "--help"]),

@@ -1,12 +1,15 @@
 -- `sum` is safe: a digest that was read fits its room. Assumes nothing.
-use native.Mathlib.Omega.{arith}
 use borrow.Author.Needs.{needs}
+use native.Mathlib.Omega.{arith}
 use Rattle.echo.proofs.Laws.Refusals.{read-fits}
 use Rattle.echosum.proofs.summing.sum.Statement.{statement}
 use Rattle.echosum.proofs.summing.sum.Tie as tie
 
 add-all-requires : tie.Need-add-all-requires
 add-all-requires c κs = search needs
+
+failed-requires : tie.Need-failed-requires
+failed-requires c κs = search needs
 
 returns : tie.Need-returns
 returns c = search needs
@@ -16,6 +19,9 @@ slice-aggregate-read c = search needs
 
 read-requires : tie.Need-read-requires
 read-requires c κs = search needs
+
+failed-requires-2 : tie.Need-failed-requires-2
+failed-requires-2 c κs = search needs
 
 returns-2 : tie.Need-returns-2
 returns-2 c = search needs
@@ -40,9 +46,11 @@ sum-spec =
     tie.close
     (tie.spec
     add-all-requires
+    failed-requires
     returns
     slice-aggregate-read
     read-requires
+    failed-requires-2
     returns-2
     sub-print-line
     part-print-line-start

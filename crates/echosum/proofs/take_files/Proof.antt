@@ -1,16 +1,16 @@
--- `sum_files` is safe and ends: the words are counted off. Assumes nothing.
+-- `take_files` is safe and ends: the words are counted off. Assumes nothing.
+use borrow.Author.Needs.{needs}
 use mathlib.Core.Path.{_≡_}
 use Prim.Native.Nat.{_-_}
 use lib.ListN.{length}
-use borrow.Author.Needs.{needs}
-use Rattle.echosum.proofs.sum_files.Statement.{statement}
-use Rattle.echosum.proofs.sum_files.Tie as tie
+use Rattle.echosum.proofs.take_files.Statement.{statement}
+use Rattle.echosum.proofs.take_files.Tie as tie
 
 abbrev Inv-loop : tie.InvT-loop
-Inv-loop session room₀ options₀ goes-on₀ count i₀ room options goes-on i = length room ≡ 4096
+Inv-loop session asked room₀ options₀ goes-on₀ is-good₀ count i₀ room options goes-on is-good i = length room ≡ 4096
 
 abbrev μ-loop : tie.MeasureT-loop
-μ-loop session room₀ options₀ goes-on₀ count i₀ room options goes-on i = count - i
+μ-loop session asked room₀ options₀ goes-on₀ is-good₀ count i₀ room options goes-on is-good i = count - i
 
 buffer-requires : tie.Need-buffer-requires Inv-loop μ-loop
 buffer-requires c κs = search needs
@@ -42,17 +42,17 @@ part-take-end c = search needs
 take-requires : tie.Need-take-requires Inv-loop μ-loop
 take-requires c κs = search needs
 
-sub-sum-named : tie.Need-sub-sum-named Inv-loop μ-loop
-sub-sum-named c = search needs
+sub-take-named : tie.Need-sub-take-named Inv-loop μ-loop
+sub-take-named c = search needs
 
-part-sum-named-start : tie.Need-part-sum-named-start Inv-loop μ-loop
-part-sum-named-start c = search needs
+part-take-named-start : tie.Need-part-take-named-start Inv-loop μ-loop
+part-take-named-start c = search needs
 
-part-sum-named-end : tie.Need-part-sum-named-end Inv-loop μ-loop
-part-sum-named-end c = search needs
+part-take-named-end : tie.Need-part-take-named-end Inv-loop μ-loop
+part-take-named-end c = search needs
 
-sum-named-requires : tie.Need-sum-named-requires Inv-loop μ-loop
-sum-named-requires c κs = search needs
+take-named-requires : tie.Need-take-named-requires Inv-loop μ-loop
+take-named-requires c κs = search needs
 
 add-i : tie.Need-add-i Inv-loop μ-loop
 add-i c = search needs
@@ -69,8 +69,8 @@ returns c = search needs
 returns-2 : tie.Need-returns-2 Inv-loop μ-loop
 returns-2 c = search needs
 
-pub sum-files-spec : {M : Type 1} → statement M
-sum-files-spec =
+pub take-files-spec : {M : Type 1} → statement M
+take-files-spec =
     tie.close
     (tie.spec
     Inv-loop
@@ -85,10 +85,10 @@ sum-files-spec =
     part-take-start
     part-take-end
     take-requires
-    sub-sum-named
-    part-sum-named-start
-    part-sum-named-end
-    sum-named-requires
+    sub-take-named
+    part-take-named-start
+    part-take-named-end
+    take-named-requires
     add-i
     loop-less
     loop-again

@@ -2,4 +2,3 @@ pub mod Bytes
 pub mod Hexadecimal
 pub mod Listed
 pub mod Names
-pub mod Words

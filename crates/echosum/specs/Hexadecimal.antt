@@ -1,20 +1,11 @@
--- The values of hex digits. Assumes nothing.
-use Prim.Native.Nat.{ℕ, suc, _+_, _*_, _-_}
+-- Runs and pairs of hex digits. Assumes nothing.
+use Prim.Native.Nat.{ℕ, suc, _+_, _*_}
 use mathlib.Core.Bool.{true, false, cond, _&&_}
 use mathlib.Core.List.{List, [], _∷_, _++_}
-use lib.Dec.{leb, ltb}
+use lib.Dec.{leb}
 use lib.ListN.{drop, length, replicate}
+use Rattle.digits.specs.Hexadecimal.{nibbleOf}
 use Rattle.echosum.specs.declared.hexadecimal.Hex.{Hex}
-
--- the value of a digit, `0` to `9`, `A` to `F` or `a` to `f`, and 16 for any other byte
-unfoldable pub nibbleOf : ℕ → ℕ
-nibbleOf x =
-    cond (ltb x 48) 16
-    (cond (leb x 57) (x - 48)
-    (cond (ltb x 65) 16
-    (cond (leb x 70) (x - 65 + 10)
-    (cond (ltb x 97) 16
-    (cond (leb x 102) (x - 97 + 10) 16)))))
 
 -- how many bytes at the front of a text are digits
 unfoldable pub digitsIn : List ℕ → ℕ

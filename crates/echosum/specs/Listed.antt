@@ -4,13 +4,14 @@ use mathlib.Core.Bool.{Bool, true, false, cond}
 use mathlib.Core.List.{List, [], _∷_}
 use lib.Dec.{eqb, ltb}
 use lib.ListN.{getD, length, replicate}
+use Rattle.digits.specs.Numbers.{numberOf}
+use Rattle.digits.specs.Salts.{saltOf}
 use Rattle.echosum.specs.declared.listed.Head.{Head}
 use Rattle.echosum.specs.declared.listed.Listed.{Listed}
 use Rattle.echosum.specs.declared.listed.Terms.{Terms}
 use Rattle.echosum.specs.Bytes.{part, sameOf}
 use Rattle.echosum.specs.Hexadecimal.{digitsIn, hexOf}
 use Rattle.echosum.specs.Names.{isName}
-use Rattle.echosum.specs.Words.{numberOf, saltOf}
 
 -- a line that says nothing, as every line that is not properly formatted does
 abbrev pub noListed : Listed

@@ -2,37 +2,13 @@
 ghost use Prim.Native.Nat.{_≤_};
 ghost use mathlib.Core.Path.{_≡_};
 ghost use lib.ListN.{length};
-ghost use Rattle.echosum.specs.Hexadecimal.{digitsIn, hexOf, nibbleOf};
+ghost use Rattle.echosum.specs.Hexadecimal.{digitsIn, hexOf};
+use digits::nibble;
 
 // The bytes of pairs of digits, with zeros behind them.
 pub(crate) struct Hex {
     pub is_good: bool,
     pub bytes: [u8; 64],
-}
-
-// The value of a hex digit of either case, and 16 for any other byte.
-pub(crate) fn nibble(digit: u8) -> u8
-    ensures { λ r. ⌜ r ≡ nibbleOf digit ⌝ }
-{
-    if digit < b'0' {
-        return 16;
-    }
-    if digit <= b'9' {
-        return digit - b'0';
-    }
-    if digit < b'A' {
-        return 16;
-    }
-    if digit <= b'F' {
-        return digit - b'A' + 10;
-    }
-    if digit < b'a' {
-        return 16;
-    }
-    if digit <= b'f' {
-        return digit - b'a' + 10;
-    }
-    16
 }
 
 // How many bytes at the front are digits.

@@ -13,8 +13,8 @@ use super::bytes::is_same;
 use super::hexadecimal::digits_in;
 use super::hexadecimal::hex_in;
 use super::names::is_name;
-use super::words::number_in;
-use super::words::salt_in;
+use digits::number_in;
+use digits::salt_in;
 
 // What a line without a tag leaves to the flags: mode, salt, and the bits that it has to have, 0 where any will do.
 pub(crate) struct Terms {

@@ -5,8 +5,8 @@ use super::style::Style;
 use super::words::begins_with;
 use super::words::is_dashed;
 use super::words::is_flag;
-use super::words::number_in;
-use super::words::salt_in;
+use digits::number_in;
+use digits::salt_in;
 
 // What the words so far ask for, and what the next one is.
 pub(crate) struct Options {

@@ -8,18 +8,19 @@ use native.Mathlib.Omega.{arith}
 use borrow.Author.Tests.{eq-eqb, le-ltb, lt-ltb, ltb-false, ne-eqb, not-false, not-true}
 use lib.Dec.{eqb, ltb}
 use lib.ListN.{getD, length, length-drop, length-take}
+use Rattle.digits.specs.Numbers.{numberOf}
+use Rattle.digits.specs.Salts.{saltOf}
 use Rattle.echosum.specs.declared.hexadecimal.Hex.{Hex}
 use Rattle.echosum.specs.declared.listed.Head.{Head}
 use Rattle.echosum.specs.declared.listed.Listed.{Listed}
 use Rattle.echosum.specs.declared.listed.Terms.{Terms}
-use Rattle.echosum.specs.declared.words.Number.{Number}
-use Rattle.echosum.specs.declared.words.Salt.{Salt}
+use Rattle.digits.specs.declared.numbers.Number.{Number}
+use Rattle.digits.specs.declared.salts.Salt.{Salt}
 use Rattle.echosum.specs.Bytes.{part, sameOf}
 use Rattle.echosum.specs.Hexadecimal.{digitsIn, hexOf}
 use Rattle.echosum.specs.Listed.{begins, bitsFor, closes, double, framedOf, gapOf, headOf, isAdmitted, listedOf, markIn, modeOf, noHead}
 use Rattle.echosum.specs.Listed.{noListed, opens, plainOf, plainTo, single, taggedBy, taggedOf, taggedTo}
 use Rattle.echosum.specs.Names.{isName}
-use Rattle.echosum.specs.Words.{numberOf, saltOf}
 
 -- ---- small tests
 

@@ -44,13 +44,13 @@ PREFIX = /usr/local
 DESTDIR =
 PROGRAMS = echosum fingerprint_table list_table
 MANUALS = $(wildcard man/*.1)
-PAGES = $(wildcard README.md CONTRIBUTING.md docs/*.md include/*.md)
+PAGES = README.md $(wildcard docs/*.md)
 place = $(DESTDIR)$(PREFIX)
 own = $(place)/libexec/bahmorist
 pages = $(place)/share/doc/bahmorist
 install:
 	@for file in native/libbahmorist.a $(PROGRAMS:%=bin/%); do [ -f "target/$$file" ] || { echo "no target/$$file: run 'make' first" >&2; exit 1; }; done
-	mkdir -p "$(place)/include" "$(place)/lib/pkgconfig" "$(own)/programs" "$(place)/bin" "$(place)/share/man/man1" "$(pages)"
+	mkdir -p "$(place)/include" "$(place)/lib/pkgconfig" "$(own)/programs" "$(place)/bin" "$(place)/share/man/man1" "$(pages)/docs"
 	cp include/bahmorist.h "$(place)/include"
 	cp target/native/libbahmorist.a "$(place)/lib"
 	sed "s|@PREFIX@|$(PREFIX)|; s|@VERSION@|$$(sed -n 's/^#define BAHMORIST_VERSION "\(.*\)"/\1/p' include/bahmorist.h)|" tools/bahmorist.pc >"$(place)/lib/pkgconfig/bahmorist.pc"
@@ -58,7 +58,7 @@ install:
 	cp tools/run "$(own)"
 	for name in $(PROGRAMS); do ln -sf ../libexec/bahmorist/run "$(place)/bin/$$name"; done
 	cp $(MANUALS) "$(place)/share/man/man1"
-	cp $(PAGES) "$(pages)"
+	for page in $(PAGES); do cp "$$page" "$(pages)/$$page"; done
 
 # Folders of others stay, even where they are empty now; its own go, unless someone has put something there.
 uninstall:
@@ -66,8 +66,8 @@ uninstall:
 	for name in $(PROGRAMS); do rm -f "$(place)/bin/$$name" "$(own)/programs/$$name"; done
 	rm -f "$(own)/run"
 	for name in $(notdir $(MANUALS)); do rm -f "$(place)/share/man/man1/$$name"; done
-	for name in $(notdir $(PAGES)); do rm -f "$(pages)/$$name"; done
-	for folder in "$(own)/programs" "$(own)" "$(pages)"; do [ ! -d "$$folder" ] || rmdir "$$folder" || :; done
+	for page in $(PAGES); do rm -f "$(pages)/$$page"; done
+	for folder in "$(own)/programs" "$(own)" "$(pages)/docs" "$(pages)"; do [ ! -d "$$folder" ] || rmdir "$$folder" || :; done
 
 clean:
 	rm -rf target rust/target

@@ -1,11 +1,11 @@
 -- Texts, byte by byte. Assumes nothing.
 use mathlib.Core.Path.{_≡_, _∙_, ap, refl, sym}
-use mathlib.Core.Bool.{Bool, true, false, cond}
+use mathlib.Core.Bool.{Bool, true, false, cond, true≢false}
 use mathlib.Core.List.{List, [], _∷_}
 use Prim.Native.Nat.{ℕ, suc, _+_, _<_, _≤_}
 use native.Mathlib.Numerals.{add-one}
 use native.Mathlib.Omega.{arith}
-use borrow.Author.Tests.{eq-eqb, ne-eqb}
+use borrow.Author.Tests.{eq-eqb, eqb-true, ne-eqb}
 use lib.Dec.{eqb}
 use lib.ListN.{drop, getD, length}
 use lib.Seq.{drop-cons, drop-length}
@@ -45,6 +45,23 @@ module _ (a b : List ℕ) (i n : ℕ) (e : n ≡ length a) (l : length a ≡ len
       let p : i ≡ length a = omega arith in
       let q : i ≡ length b = omega arith in
       sym (so-far ∙ ap (λ (k : ℕ). sameOf (drop k a) (drop i b)) p ∙ rw (drop-length a, q, drop-length b))
+
+-- two texts are the same exactly where they are equal
+pub same-equal : (a b : List ℕ) → sameOf a b ≡ true → a ≡ b
+unfolding sameOf
+same-equal [] [] h = refl
+same-equal [] (y ∷ ys) h = absurd (true≢false (sym h))
+same-equal (x ∷ xs) [] h = absurd (true≢false (sym h))
+same-equal (x ∷ xs) (y ∷ ys) h = by-head (eqb x y) refl (same-equal xs ys)
+  where
+    by-head : (t : Bool) → eqb x y ≡ t → (sameOf xs ys ≡ true → xs ≡ ys) → x ∷ xs ≡ y ∷ ys
+    by-head true e f = let p = eqb-true x y e in let q = f (simp e at h) in cc
+    by-head false e f = absurd (true≢false (sym (simp e at h)))
+
+pub equal-same : (a : List ℕ) → sameOf a a ≡ true
+unfolding sameOf
+equal-same [] = refl
+equal-same (x ∷ xs) = simp (eq-eqb x x refl) (equal-same xs)
 
 -- ---- a byte among others
 

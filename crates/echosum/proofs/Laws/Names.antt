@@ -1,6 +1,6 @@
 -- Names in a list, byte by byte. Assumes nothing.
 use mathlib.Core.Path.{_≡_, _∙_, ap, refl, sym}
-use mathlib.Core.Bool.{Bool, true, false, not, _&&_}
+use mathlib.Core.Bool.{Bool, true, false, cond, not}
 use mathlib.Core.List.{List, [], _∷_, _++_, append-assoc, append-nil}
 use Prim.Native.Nat.{ℕ, suc, _+_, _<_, _≤_, min}
 use native.Mathlib.Numerals.{add-one}
@@ -9,8 +9,10 @@ use borrow.Author.Tests.{eq-eqb, ne-eqb}
 use lib.Dec.{eqb}
 use lib.ListN.{drop, getD, length, take}
 use lib.Seq.{drop-cons, drop-length, take-length, take-suc}
-use Rattle.lines.specs.Lines.{Put}
-use Rattle.lines.proofs.Laws.Lines.{put-join, put-nothing}
+use Rattle.lines.specs.Lines.{Put, spread}
+use Rattle.lines.specs.Names.{escapeOf}
+use Rattle.lines.proofs.Laws.Lines.{put-join, put-nothing, spread-cons, spread-nil}
+use Rattle.lines.proofs.Laws.Names.{escape-cases}
 use Rattle.echosum.specs.Bytes.{holdsOf}
 use Rattle.echosum.specs.Names.{areEscapes, areEscapesFrom, faultAt, isName, meantBy, opensAt, unescaped, unescapedFrom, undoneAt}
 
@@ -149,3 +151,57 @@ module _ (o : Bool) (x : ℕ) (room : List ℕ) (at : ℕ) (after : List ℕ) (r
 
   pub undone-byte : o ≡ false → (x ≡ 92 → ⊥) → Put room at (x ∷ []) after r → Put room at (undoneAt o x) after r
   undone-byte f h p = rw f (simp (ne-eqb x 92 h) p)
+
+-- ---- what was escaped
+
+-- whatever stands behind it
+undone-escape : (rest : List ℕ) (x : ℕ) → unescapedFrom false (escapeOf x ++ rest) ≡ x ∷ unescapedFrom false rest
+unfolding unescapedFrom meantBy
+undone-escape rest =
+    escape-cases (λ x text. unescapedFrom false (text ++ rest) ≡ x ∷ unescapedFrom false rest) refl refl refl
+    (λ x u v w. simp (ne-eqb x 92 w))
+
+good-escape : (rest : List ℕ) (x : ℕ) → areEscapesFrom false (escapeOf x ++ rest) ≡ areEscapesFrom false rest
+unfolding areEscapesFrom meantBy
+good-escape rest =
+    escape-cases (λ x text. areEscapesFrom false (text ++ rest) ≡ areEscapesFrom false rest) refl refl refl
+    (λ x u v w. simp (ne-eqb x 92 w))
+
+zero-escape : (rest : List ℕ) (x : ℕ) → holdsOf 0 (escapeOf x ++ rest) ≡ holdsOf 0 (x ∷ rest)
+unfolding holdsOf
+zero-escape rest = escape-cases (λ x text. holdsOf 0 (text ++ rest) ≡ holdsOf 0 (x ∷ rest)) refl refl refl (λ x u v w. refl)
+
+-- undoing escapes gives back the name that was escaped
+pub unescaped-escaped : (name : List ℕ) → unescaped (spread escapeOf name) ≡ name
+unfolding unescaped unescapedFrom
+unescaped-escaped [] = rw (spread-nil escapeOf)
+unescaped-escaped (x ∷ xs) = rw (spread-cons escapeOf x xs, undone-escape (spread escapeOf xs) x) (ap (λ (l : List ℕ). x ∷ l) (unescaped-escaped xs))
+
+pub escapes-escaped : (name : List ℕ) → areEscapes (spread escapeOf name) ≡ true
+unfolding areEscapes areEscapesFrom
+escapes-escaped [] = rw (spread-nil escapeOf)
+escapes-escaped (x ∷ xs) = rw (spread-cons escapeOf x xs, good-escape (spread escapeOf xs) x) (escapes-escaped xs)
+
+zero-escaped : (name : List ℕ) → holdsOf 0 (spread escapeOf name) ≡ holdsOf 0 name
+unfolding holdsOf
+zero-escaped [] = rw (spread-nil escapeOf)
+zero-escaped (x ∷ xs) =
+    rw (spread-cons escapeOf x xs, zero-escape (spread escapeOf xs) x) (ap (λ (b : Bool). cond (eqb x 0) true b) (zero-escaped xs))
+
+-- a name that a file can have is one when it is escaped, and one as it is
+some-escaped : (x : ℕ) (rest : List ℕ) → length (escapeOf x ++ rest) ≡ 0 → ⊥
+some-escaped x rest =
+    escape-cases (λ x text. length (text ++ rest) ≡ 0 → ⊥) (λ e. omega arith) (λ e. omega arith) (λ e. omega arith) (λ x u v w e. omega arith) x
+
+module _ (name : List ℕ) (h : length name ≡ 0 → ⊥) (z : holdsOf 0 name ≡ false) where
+  pub escaped-is-name : isName true (spread escapeOf name) ≡ true
+  unfolding isName
+  escaped-is-name = simp (ne-eqb (length (spread escapeOf name)) 0 (some name h), zero-escaped name ∙ z, escapes-escaped name)
+    where
+      some : (n : List ℕ) → (length n ≡ 0 → ⊥) → length (spread escapeOf n) ≡ 0 → ⊥
+      some [] p e = p refl
+      some (x ∷ xs) p e = some-escaped x (spread escapeOf xs) (rw (spread-cons escapeOf x xs) at e)
+
+  pub plain-is-name : isName false name ≡ true
+  unfolding isName
+  plain-is-name = simp (ne-eqb (length name) 0 h, z)

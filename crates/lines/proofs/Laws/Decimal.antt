@@ -65,3 +65,12 @@ all-found n from rest digits room at after r z l e p =
     let g : rest ≡ 0 = omega arith in
     let h : take (20 - from) (drop from digits) ≡ drop from digits = take-all (20 - from) (drop from digits) (simp length-drop (omega arith)) in
     rw (e, g, none-left from, ← h) p
+
+-- ---- a number of three digits
+
+pub three-digits : (n : ℕ) → 100 ≤ n → n < 1000 → decimalOf n ≡ (48 + n / 10 / 10 % 10) ∷ (48 + n / 10 % 10) ∷ (48 + n % 10) ∷ []
+unfolding decimalOf significant
+three-digits n h g =
+    let z : n / 10 / 10 / 10 ≡ 0 = omega arith in
+    rw z
+    (simp (ne-eqb (n / 10) 0 (λ e. omega arith), ne-eqb (n / 10 / 10) 0 (λ e. omega arith)))

@@ -114,3 +114,12 @@ module _ (f : ℕ → List ℕ) (room : List ℕ) (at : ℕ) (bytes : List ℕ) 
   pub spread-all : (i n : ℕ) (after : List ℕ) (r : ℕ) → i ≤ n → n ≤ i → n ≡ length bytes → Put room at (spread f (take i bytes)) after r
       → Put room at (spread f bytes) after r
   spread-all i n after r h g e p = let l : i ≡ length bytes = omega arith in rw (l, take-length) at p
+
+-- what f makes of no byte, and of one in front
+pub spread-nil : (f : ℕ → List ℕ) → spread f [] ≡ []
+unfolding spread
+spread-nil f = refl
+
+pub spread-cons : (f : ℕ → List ℕ) (x : ℕ) (xs : List ℕ) → spread f (x ∷ xs) ≡ f x ++ spread f xs
+unfolding spread
+spread-cons f x xs = refl

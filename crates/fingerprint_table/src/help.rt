@@ -34,7 +34,7 @@ Statuses:
 Refusals; places count from 0, the table's first byte, and not from the salt:
    2  the salt is not 16 bytes; the place is 0
    8  the table is over 4096 bytes; the place is 0
-   9  no record has this kind, whose byte is at the place (kinds are 01 to 05)
+   9  no record has this kind, whose byte is at the place
   10  the record is cut short, its kind byte at the place
 ",
     );

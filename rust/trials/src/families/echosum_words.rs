@@ -320,6 +320,7 @@ fn jobs(folder: &Path) -> Vec<Job> {
         bad_word(&["-1", "-2", "short"], "-2"),
         bad_word(&["--1", "short"], "--1"),
         bad_word(&["-b", "abc", "short"], "abc"),
+        bad_word(&["-b", "25a", "short"], "25a"),
         bad_word(&["-b", "", "short"], ""),
         bad_word(&["-b", "-256", "short"], "-256"),
         // A value may stand behind its flag in the same word.

@@ -2,4 +2,5 @@ pub mod Bytes
 pub mod Hexadecimal
 pub mod Listed
 pub mod Names
+pub mod Style
 pub mod Words

@@ -25,7 +25,7 @@ use Rattle.echosum.specs.Bytes.{holdsOf, part, sameOf}
 use Rattle.echosum.specs.Hexadecimal.{hexFrom, hexOf, nibbleOf}
 use Rattle.echosum.specs.Listed.{begins, closes, double, framedOf, headOf, isAdmitted, listedOf, markIn, modeOf, opens, single, taggedOf}
 use Rattle.echosum.specs.Names.{isName, unescaped}
-use Rattle.echosum.specs.Style.{tagOf, taggedLine}
+use Rattle.echosum.specs.Style.{backOf, endOf, frontOf, lineOf, tagOf, taggedLine}
 use Rattle.echosum.specs.Words.{numberFrom, numberOf, saltFrom, saltOf}
 use Rattle.echosum.proofs.Laws.Bytes.{equal-same}
 use Rattle.echosum.proofs.Laws.Hexadecimal as hexadecimal
@@ -379,3 +379,12 @@ module _ (bits : ℕ) (a : isAdmitted bits ≡ true) (isSingle : Bool) (salt : L
   pub tagged-read-back
       : ReadBack bits isSingle salt digest name (taggedLine bits isSingle salt digest name) (listedOf (taggedLine bits isSingle salt digest name) terms)
   tagged-read-back = by (isPlain name) plain-back escaped-back
+
+-- ---- the line that is written
+
+-- with a tag and a line end, it is that line
+pub tagged-is-written : (bits : ℕ) (isSingle : Bool) (salt digest name : List ℕ)
+    → lineOf (record { «is_tagged» = true; «is_zero_ended» = false; «is_single» = isSingle; bits = bits; salt = salt }) digest name
+    ≡ taggedLine bits isSingle salt digest name ++ (10 ∷ [])
+unfolding lineOf frontOf backOf endOf taggedLine
+tagged-is-written bits isSingle salt digest name = simp append-assoc

@@ -2,3 +2,4 @@ pub mod Bytes
 pub mod Hexadecimal
 pub mod Listed
 pub mod Names
+pub mod Style

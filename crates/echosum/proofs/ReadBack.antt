@@ -20,6 +20,7 @@ use Rattle.digits.specs.declared.salts.Salt.{Salt}
 use Rattle.digits.specs.Hexadecimal.{nibbleOf}
 use Rattle.digits.specs.Numbers.{numberFrom, numberOf}
 use Rattle.digits.specs.Salts.{saltFrom, saltOf}
+use Rattle.digits.proofs.Laws.Hexadecimal as hexadecimal
 use Rattle.echosum.specs.declared.hexadecimal.Hex.{Hex}
 use Rattle.echosum.specs.declared.listed.Head.{Head}
 use Rattle.echosum.specs.declared.listed.Listed.{Listed}
@@ -28,9 +29,8 @@ use Rattle.echosum.specs.Bytes.{holdsOf, part, sameOf}
 use Rattle.echosum.specs.Hexadecimal.{hexFrom, hexOf}
 use Rattle.echosum.specs.Listed.{begins, closes, double, framedOf, headOf, isAdmitted, listedOf, markIn, modeOf, opens, single, taggedOf}
 use Rattle.echosum.specs.Names.{isName, unescaped}
-use Rattle.echosum.specs.Style.{tagOf, taggedLine}
+use Rattle.echosum.specs.Style.{backOf, endOf, frontOf, lineOf, tagOf, taggedLine}
 use Rattle.echosum.proofs.Laws.Bytes.{equal-same}
-use Rattle.digits.proofs.Laws.Hexadecimal as hexadecimal
 use Rattle.echosum.proofs.Laws.Listed.{head-good, is-double, is-single, it-is-tagged, marked, same-beginning, tagged-good, unmarked}
 use Rattle.echosum.proofs.Laws.Names.{escaped-is-name, plain-is-name, unescaped-escaped}
 
@@ -381,3 +381,12 @@ module _ (bits : ℕ) (a : isAdmitted bits ≡ true) (isSingle : Bool) (salt : L
   pub tagged-read-back
       : ReadBack bits isSingle salt digest name (taggedLine bits isSingle salt digest name) (listedOf (taggedLine bits isSingle salt digest name) terms)
   tagged-read-back = by (isPlain name) plain-back escaped-back
+
+-- ---- the line that is written
+
+-- with a tag and a line end, it is that line
+pub tagged-is-written : (bits : ℕ) (isSingle : Bool) (salt digest name : List ℕ)
+    → lineOf (record { «is_tagged» = true; «is_zero_ended» = false; «is_single» = isSingle; bits = bits; salt = salt }) digest name
+    ≡ taggedLine bits isSingle salt digest name ++ (10 ∷ [])
+unfolding lineOf frontOf backOf endOf taggedLine
+tagged-is-written bits isSingle salt digest name = simp append-assoc

@@ -1,6 +1,13 @@
 // How the line of a digest is written: with a tag or without, and with a line end or a zero byte behind it.
 ghost use Prim.Native.Nat.{_≤_};
+ghost use mathlib.Core.Path.{_≡_};
+ghost use mathlib.Core.Bool.{cond};
 ghost use lib.ListN.{length};
+ghost use mathlib.Core.List.{_++_};
+ghost use Rattle.lines.specs.Decimal.{decimalOf};
+ghost use Rattle.lines.specs.Lines.{Put};
+ghost use Rattle.echosum.specs.Listed.{begins, double, single};
+ghost use Rattle.echosum.specs.Style.{backOf, endOf, frontOf, lineOf, tagOf};
 use lines::put;
 use lines::put_decimal;
 use lines::put_hex;
@@ -15,19 +22,28 @@ pub(crate) struct Style {
     pub salt: [u8; 16],
 }
 
-// ECHO-BITS-MODE-SALT and a bracket.
-fn put_tag(room: &mut [u8], style: Style) -> usize
-    ensures { λ r. ⌜ r ≤ length (now (room .exit)) ⌝ }
+// ECHO-BITS-MODE- at the front of the room.
+fn put_kind(room: &mut [u8], bits: u64, is_single: bool) -> usize
+    ensures { λ r. ⌜ Put (now (room .entry)) 0 (begins ++ (decimalOf bits ++ cond «is_single» single double)) (now (room .exit)) r ⌝ }
 {
     let begun = put(room, 0, b"ECHO-");
-    let numbered = put_decimal(room, begun, style.bits);
-    let told = put_mode(room, numbered, style.is_single);
+    let numbered = put_decimal(room, begun, bits);
+    put_mode(room, numbered, is_single)
+}
+
+// And the salt and a bracket behind it.
+fn put_tag(room: &mut [u8], style: Style) -> usize
+    ensures { λ r. ⌜ Put (now (room .entry)) 0 (tagOf (style .bits) (style .«is_single») (style .salt)) (now (room .exit)) r ⌝ }
+{
+    let told = put_kind(room, style.bits, style.is_single);
     let salt = style.salt;
     let salted = put_hex(room, told, &salt);
     put(room, salted, b" (")
 }
 
-fn put_mode(room: &mut [u8], at: usize, is_single: bool) -> usize {
+fn put_mode(room: &mut [u8], at: usize, is_single: bool) -> usize
+    ensures { λ r. ⌜ Put (now (room .entry)) at (cond «is_single» single double) (now (room .exit)) r ⌝ }
+{
     if is_single {
         return put(room, at, b"-single-");
     }
@@ -36,7 +52,7 @@ fn put_mode(room: &mut [u8], at: usize, is_single: bool) -> usize {
 
 // What stands in front of the name.
 fn put_front(room: &mut [u8], style: Style, digest: &[u8]) -> usize
-    ensures { λ r. ⌜ r ≤ length (now (room .exit)) ⌝ }
+    ensures { λ r. ⌜ Put (now (room .entry)) 0 (frontOf style (now (digest .entry))) (now (room .exit)) r ⌝ }
 {
     if style.is_tagged {
         return put_tag(room, style);
@@ -47,7 +63,7 @@ fn put_front(room: &mut [u8], style: Style, digest: &[u8]) -> usize
 
 // What stands behind it.
 fn put_back(room: &mut [u8], style: Style, digest: &[u8]) -> usize
-    ensures { λ r. ⌜ r ≤ length (now (room .exit)) ⌝ }
+    ensures { λ r. ⌜ Put (now (room .entry)) 0 (backOf style (now (digest .entry))) (now (room .exit)) r ⌝ }
 {
     if style.is_tagged {
         let closed = put(room, 0, b") = ");
@@ -58,7 +74,7 @@ fn put_back(room: &mut [u8], style: Style, digest: &[u8]) -> usize
 }
 
 fn put_end(room: &mut [u8], at: usize, is_zero: bool) -> usize
-    ensures { λ r. ⌜ r ≤ length (now (room .exit)) ⌝ }
+    ensures { λ r. ⌜ Put (now (room .entry)) at (endOf «is_zero») (now (room .exit)) r ⌝ }
 {
     if is_zero {
         return put(room, at, b"\0");
@@ -66,18 +82,27 @@ fn put_end(room: &mut [u8], at: usize, is_zero: bool) -> usize
     put(room, at, b"\n")
 }
 
-// The line of a digest. A name is escaped where a line end would end the line.
+// A name between two texts, as it is.
+fn put_as_is(room: &mut [u8], before: &[u8], name: &[u8], after: &[u8]) -> usize
+    ensures { λ r. ⌜ Put (now (room .entry)) 0 (now (before .entry) ++ now (name .entry) ++ now (after .entry)) (now (room .exit)) r ⌝ }
+{
+    let begun = put(room, 0, before);
+    let named = put(room, begun, name);
+    put(room, named, after)
+}
+
+// The line of a digest of at most sixty-four bytes. A name is escaped where a line end would end the line. (That a salt has sixteen bytes is
+// said since the proof finds it in no other way.)
 pub(crate) fn put_line(room: &mut [u8], style: Style, digest: &[u8], name: &[u8]) -> usize
-    ensures { λ r. ⌜ r ≤ length (now (room .exit)) ⌝ }
+    ensures within { λ r. ⌜ r ≤ length (now (room .exit)) ⌝ }
+    ensures is { λ r. ⌜ (length (now (digest .entry)) ≤ 64 → length (style .salt) ≡ 16 → Put (now (room .entry)) 0 (lineOf style (now (digest .entry)) (now (name .entry))) (now (room .exit)) r) ⌝ }
 {
     let mut front = [0u8; 130];
     let begun = put_front(&mut front, style, digest);
     let mut back = [0u8; 133];
     let ended = put_back(&mut back, style, digest);
     if style.is_zero_ended {
-        let fronted = put(room, 0, &front[0..begun]);
-        let named = put(room, fronted, name);
-        return put(room, named, &back[0..ended]);
+        return put_as_is(room, &front[0..begun], name, &back[0..ended]);
     }
     put_named(room, 0, &front[0..begun], name, &back[0..ended])
 }

@@ -1,12 +1,14 @@
 -- Digits that are found from the last one on. Assumes nothing.
 use mathlib.Core.Path.{_≡_, _∙_, refl}
+use mathlib.Core.Bool.{Bool, true, false, cond}
 use mathlib.Core.List.{List, [], _∷_, _++_, append-assoc}
 use Prim.Native.Nat.{ℕ, zero, suc, _+_, _-_, _/_, _%_, _<_, _≤_, _^_}
 use native.Mathlib.Nat.{pow-succ'}
 use native.Mathlib.Numerals.{sub-one}
 use native.Mathlib.Omega.{arith}
 use borrow.Author.Tests.{ne-eqb}
-use lib.ListN.{drop, drop-of-length-le, length, length-drop, length-set, set, take}
+use lib.Dec.{eqb}
+use lib.ListN.{drop, drop-of-length-le, length, length-append, length-drop, length-set, set, take}
 use lib.Seq.{drop-cons, drop-set-lt, getD-set-same, take-all}
 use Rattle.lines.specs.Decimal.{decimalOf, significant}
 use Rattle.lines.specs.Lines.{Put}
@@ -74,3 +76,20 @@ three-digits n h g =
     let z : n / 10 / 10 / 10 ≡ 0 = omega arith in
     rw z
     (simp (ne-eqb (n / 10) 0 (λ e. omega arith), ne-eqb (n / 10 / 10) 0 (λ e. omega arith)))
+
+-- ---- how many digits there are
+
+shorter : (t : Bool) (x y : List ℕ) (m : ℕ) → length x ≤ m → length y ≤ m → length (cond t x y) ≤ m
+shorter true x y m p q = p
+shorter false x y m p q = q
+
+few-significant : (k n : ℕ) → length (significant k n) ≤ k
+unfolding significant
+few-significant zero n = omega arith
+few-significant (suc k) n =
+    shorter (eqb n 0) [] (significant k (n / 10) ++ ((48 + n % 10) ∷ [])) (suc k) (omega arith)
+    (simp length-append (omega (arith, few-significant k (n / 10))))
+
+pub few-digits : (n : ℕ) → length (decimalOf n) ≤ 20
+unfolding decimalOf
+few-digits n = simp length-append (omega (arith, few-significant 19 (n / 10)))

@@ -5,8 +5,8 @@ use mathlib.Core.List.{List, [], _∷_, _++_, append-assoc, append-nil}
 use Prim.Native.Nat.{ℕ, zero, suc, _+_, _≤_, _<_, min}
 use native.Mathlib.Numerals.{add-one, unary-clauses}
 use native.Mathlib.Omega.{arith}
-use lib.ListN.{getD, length, length-append, length-set, set, take}
-use lib.Seq.{set-out, take-length, take-suc}
+use lib.ListN.{drop, getD, length, length-append, length-set, set, take}
+use lib.Seq.{append-snoc, set-append-seam, set-out, take-at, take-length, take-suc}
 use Rattle.lines.specs.Lines.{Put, behind, placed, spread}
 
 -- ---- places
@@ -123,3 +123,22 @@ spread-nil f = refl
 pub spread-cons : (f : ℕ → List ℕ) (x : ℕ) (xs : List ℕ) → spread f (x ∷ xs) ≡ f x ++ spread f xs
 unfolding spread
 spread-cons f x xs = refl
+
+-- ---- a text that finds its place
+
+-- behind what stands before the place
+placed-behind : (before room text : List ℕ) → length text ≤ length room
+    → placed (before ++ room) (length before) text ≡ before ++ (text ++ drop (length text) room)
+unfolding placed
+placed-behind before room [] h = refl
+placed-behind before [] (x ∷ xs) h = absurd (omega arith)
+placed-behind before (y ∷ ys) (x ∷ xs) h =
+    let l : suc (length before) ≡ length (before ++ (x ∷ [])) = simp length-append (omega arith) in
+    rw (set-append-seam before y ys x, ← append-snoc before x ys, l)
+    (placed-behind (before ++ (x ∷ [])) ys xs (omega arith) ∙ append-snoc before x (xs ++ drop (length xs) ys))
+
+-- what is put at the front of a room that is long enough stands there
+pub put-stands : (room text after : List ℕ) (r : ℕ) → Put room 0 text after r → length text ≤ length room → take r after ≡ text
+put-stands room text after r p h =
+    let n : length text ≡ r = omega (arith, p .place-is) in
+    rw (p .room-is, placed-behind [] room text h) (take-at text (drop (length text) room) r n)

@@ -1,17 +1,17 @@
 -- A tagged line is read back as what it was made of: bits, mode, salt, digest and name. Assumes nothing.
 use mathlib.Core.Path.{_≡_, _∙_, ap, refl, sym}
-use mathlib.Core.Bool.{Bool, true, false, cond, not, true≢false}
+use mathlib.Core.Bool.{Bool, true, false, cond, true≢false}
 use mathlib.Core.List.{List, [], _∷_, _++_, append-assoc, append-nil}
-use Prim.Native.Nat.{ℕ, suc, _+_, _*_, _-_, _/_, _%_, _<_, _≤_}
+use Prim.Native.Nat.{ℕ, _+_, _*_, _-_, _/_, _%_, _<_, _≤_}
 use native.Mathlib.Omega.{arith}
-use borrow.Author.Tests.{eq-eqb, eqb-true, le-leb, le-ltb, lt-ltb, ltb-false, ltb-true, ne-eqb}
+use borrow.Author.Tests.{eq-eqb, eqb-true, le-leb, ltb-false, ltb-true}
 use lib.Dec.{eqb, ltb}
-use lib.ListN.{drop, getD, length, length-append, replicate, take}
+use lib.ListN.{drop, length, length-append, replicate}
 use lib.Seq.{append-snoc, drop-at, take-all, take-at}
 use Rattle.lines.specs.Decimal.{decimalOf}
 use Rattle.lines.specs.Hexadecimal.{digitOf, digitsOf}
 use Rattle.lines.specs.Lines.{spread}
-use Rattle.lines.specs.Names.{escapeOf, isPlain, markOf}
+use Rattle.lines.specs.Names.{escapeOf, isPlain}
 use Rattle.lines.proofs.Laws.Decimal.{three-digits}
 use Rattle.lines.proofs.Laws.Lines.{spread-cons, spread-nil}
 use Rattle.lines.proofs.Laws.Names.{mark-none, mark-one, plain-stays}
@@ -21,8 +21,6 @@ use Rattle.digits.specs.Hexadecimal.{nibbleOf}
 use Rattle.digits.specs.Numbers.{numberFrom, numberOf}
 use Rattle.digits.specs.Salts.{saltFrom, saltOf}
 use Rattle.digits.proofs.Laws.Hexadecimal as hexadecimal
-use Rattle.echosum.specs.declared.hexadecimal.Hex.{Hex}
-use Rattle.echosum.specs.declared.listed.Head.{Head}
 use Rattle.echosum.specs.declared.listed.Listed.{Listed}
 use Rattle.echosum.specs.declared.listed.Terms.{Terms}
 use Rattle.echosum.specs.Bytes.{holdsOf, part, sameOf}
@@ -31,8 +29,9 @@ use Rattle.echosum.specs.Listed.{begins, closes, double, framedOf, headO
 use Rattle.echosum.specs.Names.{isName, unescaped}
 use Rattle.echosum.specs.Style.{backOf, endOf, frontOf, lineOf, tagOf, taggedLine}
 use Rattle.echosum.proofs.Laws.Bytes.{equal-same}
-use Rattle.echosum.proofs.Laws.Listed.{head-good, is-double, is-single, it-is-tagged, marked, same-beginning, tagged-good, unmarked}
+use Rattle.echosum.proofs.Laws.Listed.{head-good, it-is-tagged, marked, same-beginning, tagged-good, unmarked}
 use Rattle.echosum.proofs.Laws.Names.{escaped-is-name, plain-is-name, unescaped-escaped}
+use Rattle.echosum.proofs.Laws.Style.{by, length-digits}
 
 -- each is a byte
 pub data AreBytes : List ℕ → Type 0 where
@@ -48,20 +47,16 @@ pub record ReadBack (bits : ℕ) (isSingle : Bool) (salt digest name line : List
   pub digest-is : r .digest ≡ digest ++ drop (length digest) (replicate 64 0)
   pub name-is : cond (r .«is_escaped») (unescaped (part (r .from) (r .to) line)) (part (r .from) (r .to) line) ≡ name
 
-by : {A : Type 0} (b : Bool) → (b ≡ true → A) → (b ≡ false → A) → A
-by true f g = f refl
-by false f g = g refl
-
 -- the number of a mode
 abbrev modeNumber : Bool → ℕ
 modeNumber b = cond b 1 2
 
 -- ---- parts of a text
 
-middle : (a b c : List ℕ) (i j : ℕ) → i ≡ length a → j ≡ length a + length b → part i j (a ++ (b ++ c)) ≡ b
+pub middle : (a b c : List ℕ) (i j : ℕ) → i ≡ length a → j ≡ length a + length b → part i j (a ++ (b ++ c)) ≡ b
 middle a b c i j p q = rw (drop-at a (b ++ c) i (sym p)) (take-at b c (j - i) (omega arith))
 
-last : (a b : List ℕ) (i j : ℕ) → i ≡ length a → j ≡ length a + length b → part i j (a ++ b) ≡ b
+pub last : (a b : List ℕ) (i j : ℕ) → i ≡ length a → j ≡ length a + length b → part i j (a ++ b) ≡ b
 last a b i j p q = rw (drop-at a b i (sym p)) (take-all (j - i) b (omega arith))
 
 -- ---- digits
@@ -78,20 +73,16 @@ nibble-digit v h =
     let e : nibbleOf (87 + v) ≡ 87 + v - 97 + 10 = sym (hexadecimal.small (87 + v) (omega arith) (omega arith)) in
     rw t (e ∙ omega arith))
 
-high : (x : ℕ) → x < 256 → nibbleOf (digitOf (x / 16)) ≡ x / 16
+pub high : (x : ℕ) → x < 256 → nibbleOf (digitOf (x / 16)) ≡ x / 16
 high x h = nibble-digit (x / 16) (omega arith)
 
-low : (x : ℕ) → nibbleOf (digitOf (x % 16)) ≡ x % 16
+pub low : (x : ℕ) → nibbleOf (digitOf (x % 16)) ≡ x % 16
 low x = nibble-digit (x % 16) (omega arith)
 
 both : (x : ℕ) → 16 * (x / 16) + x % 16 ≡ x
 both x = omega arith
 
-length-digits : (bytes : List ℕ) → length (spread digitsOf bytes) ≡ 2 * length bytes
-length-digits [] = rw (spread-nil digitsOf)
-length-digits (x ∷ xs) = rw (spread-cons digitsOf x xs) (omega (arith, length-digits xs))
-
-hex-back : (so-far bytes : List ℕ) → AreBytes bytes
+pub hex-back : (so-far bytes : List ℕ) → AreBytes bytes
     → hexFrom so-far (spread digitsOf bytes)
     ≡ record { «is_good» = true; bytes = (so-far ++ bytes) ++ drop (length (so-far ++ bytes)) (replicate 64 0) }
 unfolding hexFrom
@@ -119,7 +110,7 @@ decimal-digit d h = let e : nibbleOf (48 + d) ≡ 48 + d - 48 = sym (hexadecimal
 
 -- ---- the bits
 
-admitted-bounds : (bits : ℕ) → isAdmitted bits ≡ true → (128 ≤ bits) × (bits ≤ 512) × (bits % 8 ≡ 0)
+pub admitted-bounds : (bits : ℕ) → isAdmitted bits ≡ true → (128 ≤ bits) × (bits ≤ 512) × (bits % 8 ≡ 0)
 unfolding isAdmitted
 admitted-bounds bits a =
     by (ltb bits 128)

@@ -18,6 +18,10 @@ unfoldable pub taggedLine : ℕ → Bool → List ℕ → List ℕ → List ℕ 
 taggedLine bits one salt digest name =
     markOf name ++ (tagOf bits one salt ++ (spread escapeOf name ++ (closes ++ spread digitsOf digest)))
 
+-- a line without a tag and without its line end
+unfoldable pub plainLine : List ℕ → List ℕ → List ℕ
+plainLine digest name = markOf name ++ (spread digitsOf digest ++ (32 ∷ 32 ∷ spread escapeOf name))
+
 -- ---- as it is written
 
 -- in front of the name: the tag, or the digest and two spaces

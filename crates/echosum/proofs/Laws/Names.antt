@@ -2,7 +2,7 @@
 use mathlib.Core.Path.{_≡_, _∙_, ap, refl, sym}
 use mathlib.Core.Bool.{Bool, true, false, cond, not}
 use mathlib.Core.List.{List, [], _∷_, _++_, append-assoc, append-nil}
-use Prim.Native.Nat.{ℕ, suc, _+_, _<_, _≤_, min}
+use Prim.Native.Nat.{ℕ, _+_, _<_, _≤_}
 use native.Mathlib.Numerals.{add-one}
 use native.Mathlib.Omega.{arith}
 use borrow.Author.Tests.{eq-eqb, ne-eqb}
@@ -193,14 +193,14 @@ some-escaped : (x : ℕ) (rest : List ℕ) → length (escapeOf x ++ rest) ≡ 0
 some-escaped x rest =
     escape-cases (λ x text. length (text ++ rest) ≡ 0 → ⊥) (λ e. omega arith) (λ e. omega arith) (λ e. omega arith) (λ x u v w e. omega arith) x
 
+pub still : (name : List ℕ) → (length name ≡ 0 → ⊥) → length (spread escapeOf name) ≡ 0 → ⊥
+still [] p e = p refl
+still (x ∷ xs) p e = some-escaped x (spread escapeOf xs) (rw (spread-cons escapeOf x xs) at e)
+
 module _ (name : List ℕ) (h : length name ≡ 0 → ⊥) (z : holdsOf 0 name ≡ false) where
   pub escaped-is-name : isName true (spread escapeOf name) ≡ true
   unfolding isName
-  escaped-is-name = simp (ne-eqb (length (spread escapeOf name)) 0 (some name h), zero-escaped name ∙ z, escapes-escaped name)
-    where
-      some : (n : List ℕ) → (length n ≡ 0 → ⊥) → length (spread escapeOf n) ≡ 0 → ⊥
-      some [] p e = p refl
-      some (x ∷ xs) p e = some-escaped x (spread escapeOf xs) (rw (spread-cons escapeOf x xs) at e)
+  escaped-is-name = simp (ne-eqb (length (spread escapeOf name)) 0 (still name h), zero-escaped name ∙ z, escapes-escaped name)
 
   pub plain-is-name : isName false name ≡ true
   unfolding isName

@@ -4,7 +4,7 @@ use mathlib.Core.Bool.{Bool, true, false, cond}
 use mathlib.Core.List.{List, [], _∷_, _++_, append-assoc}
 use Prim.Native.Nat.{ℕ, _+_, _*_, _-_, _≤_}
 use native.Mathlib.Omega.{arith}
-use lib.ListN.{length, length-append, length-replicate, replicate, take}
+use lib.ListN.{length, length-append, replicate}
 use Rattle.lines.specs.Decimal.{decimalOf}
 use Rattle.lines.specs.Hexadecimal.{digitsOf}
 use Rattle.lines.specs.Lines.{Put, spread}
@@ -74,11 +74,11 @@ module _ (style : Style) (digest room after : List ℕ) (r : ℕ) where
 
 -- ---- their lengths
 
-by : {A : Type 0} (b : Bool) → (b ≡ true → A) → (b ≡ false → A) → A
+pub by : {A : Type 0} (b : Bool) → (b ≡ true → A) → (b ≡ false → A) → A
 by true f g = f refl
 by false f g = g refl
 
-length-digits : (bytes : List ℕ) → length (spread digitsOf bytes) ≡ 2 * length bytes
+pub length-digits : (bytes : List ℕ) → length (spread digitsOf bytes) ≡ 2 * length bytes
 length-digits [] = rw (spread-nil digitsOf)
 length-digits (x ∷ xs) = rw (spread-cons digitsOf x xs) (omega (arith, length-digits xs))
 

@@ -34,9 +34,9 @@
  * Registers, and what a compiler has copied of the caller's own, are not wiped by that.
  *
  * Each function but bahmorist_same and bahmorist_version answers 0, or the number that it refuses by (enum bahmorist_refusal), which
- * bahmorist_refusal_text says in words. Where several apply the lowest is given, but between 9 and 10 that of the record nearer the table's front. A function that refuses writes to no buffer; bahmorist_fingerprint writes *place and
- * bahmorist_hmac_check writes *yes even then. What stands in a buffer after a refusal is no digest and no tag, so a compiler that can warns where
- * an answer is not looked at.
+ * bahmorist_refusal_text says in words. Where several apply the lowest is given, but between 9 and 10 that of the record nearer the table's front. A
+ * function that refuses writes to no buffer; bahmorist_fingerprint writes *place and bahmorist_hmac_check writes *yes even then. What stands in a
+ * buffer after a refusal is no digest and no tag, so a compiler that can warns where an answer is not looked at.
  *
  * What a caller must give: a pointer and a length name that many bytes, which nothing else writes during the call. Memory that a function
  * writes (a pointer without const) overlaps none of its other arguments. Where a length is 0 nothing is read or written there, and any

@@ -60,14 +60,12 @@ fn take_line(line: &[u8], length: usize, tally: Tally, options: Options) -> Tall
     if line.len() < length {
         return tally.with_improper();
     }
-    let end = without_return(&line[0..length]);
+    let text = &line[0..length];
+    let end = without_return(text);
     if end == 0 {
         return tally;
     }
-    if line.len() < end {
-        return tally;
-    }
-    tally.take_line(&line[0..end], options)
+    tally.take_line(&text[0..end], options)
 }
 
 impl Reading {

@@ -186,12 +186,15 @@ impl Options {
             self.asks_check = true;
             return self;
         }
+        // Of these two the last one counts.
         if is_same(word, b"--quiet") {
             self.is_quiet = true;
+            self.is_silent = false;
             return self;
         }
         if is_same(word, b"--status") {
             self.is_silent = true;
+            self.is_quiet = false;
             return self;
         }
         if is_same(word, b"--strict") {

@@ -2,7 +2,7 @@
 ghost use mathlib.Core.Path.{_≡_};
 ghost use Rattle.echosum.specs.Bytes.{holdsOf, sameOf};
 
-// Whether two texts have the same bytes. It looks at each of them.
+// Whether two texts have the same bytes.
 pub(crate) fn is_same(a: &[u8], b: &[u8]) -> bool
     ensures { λ r. ⌜ r ≡ sameOf (now (a .entry)) (now (b .entry)) ⌝ }
 {

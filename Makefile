@@ -13,7 +13,7 @@
 # The examples: a steering table's records, its fingerprint, and the digest of "abc".
 all:
 	@mkdir -p target
-	@echo "proving and building every crate takes four to eight minutes; what is said goes to target/check.log"
+	@echo "proving and building every crate takes five to ten minutes; what is said goes to target/check.log"
 	@rt check >target/check.log 2>&1 || { grep -E 'error: |NOT PROVED|FAILED' target/check.log | head -n 20 | cut -c 1-200; tail -n 5 target/check.log | cut -c 1-200; exit 1; }
 	@tail -n 1 target/check.log
 	@tools/library

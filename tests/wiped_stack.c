@@ -1,9 +1,11 @@
 /* Verifies a forged message on a stack of its own and looks there for what a forger wants: the right tag, and the inner chaining value behind the
- * key's block, with which any message could be tagged but for the outer one. Without the recipe of include/bahmorist.h both are found, and with it neither. RECIPE is a file that has the recipe, as it stands there.
+ * key's block, with which any message could be tagged but for the outer one. Without the recipe of include/bahmorist.h both are found, and with it
+ * neither. RECIPE is a file that has the recipe, as it stands there.
  *
  *     cc -std=gnu99 -O2 -DRECIPE='"FILE"' -I include tests/wiped_stack.c target/native/libbahmorist.a -o target/wiped_stack && target/wiped_stack
  *
- * Prints what was found. The status is 0 where that is as it should be. */
+ * Prints what was found. The status is 0 where that is as it should be; that there is something to wipe was seen on x86-64 and is asked for there
+ * alone, since another compiler may lay its frames elsewhere. */
 #define _XOPEN_SOURCE 700
 #include "bahmorist.h"
 #include RECIPE
@@ -77,5 +79,10 @@ int main(void)
     wiped_chaining = holds(verify_and_wipe, chaining, sizeof chaining);
     printf("the right tag: %s, and once wiped %s\n", told(kept_tag), told(wiped_tag));
     printf("the inner chaining value: %s, and once wiped %s\n", told(kept_chaining), told(wiped_chaining));
-    return !(answer == BAHMORIST_REFUSED_TAG && kept_tag && kept_chaining && !wiped_tag && !wiped_chaining);
+#ifdef __x86_64__
+    if (!kept_tag || !kept_chaining) {
+        return 1;
+    }
+#endif
+    return !(answer == BAHMORIST_REFUSED_TAG && !wiped_tag && !wiped_chaining);
 }

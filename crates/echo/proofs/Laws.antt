@@ -23,6 +23,7 @@ pub mod Families
 pub mod Initial
 pub mod Waiting
 pub mod Sessions
+pub mod Exactly
 pub mod Ends
 pub mod Stream
 pub mod Folded

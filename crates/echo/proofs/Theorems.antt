@@ -1,7 +1,7 @@
 -- The theorems of this crate that the pages quote, each closed: what it assumes stands in its statement. Assumes nothing.
 use mathlib.Core.Path.{_≡_}
 use mathlib.Core.Bool.{false, true}
-use mathlib.Core.Logic.{_⊎_}
+use mathlib.Core.Logic.{_⊎_, _↔_}
 use mathlib.Core.List.{List, [], _∷_, _++_}
 use Prim.Native.Nat.{ℕ, suc, _+_, _*_, _-_, _/_, _%_, _^_, _<_, _≤_, min}
 use lib.Dec.{lit<, ltb}
@@ -59,6 +59,7 @@ use Rattle.echo.proofs.ARefusalChangesNothing as refusing
 use Rattle.echo.proofs.Laws.AtOnce as at-once
 use Rattle.echo.proofs.Laws.ByTables as by-tables
 use Rattle.echo.proofs.Laws.Continued as continued
+use Rattle.echo.proofs.Laws.Exactly as exactly
 use Rattle.echo.proofs.Laws.Folded as folded
 use Rattle.echo.proofs.Laws.Marked as marked
 use Rattle.echo.proofs.Laws.MixedNumbers as mixed-numbers
@@ -235,6 +236,22 @@ pub every-session-continues-the-iteration : (s : Session) (piece : List ℕ) (co
 every-session-continues-the-iteration s piece count room taken c w r =
     let A = sessions.addable s piece count taken in
     let C = continued.continues s (A .is) c w piece count A room r in (C .1, C .2, C .3)
+
+-- ---- any record
+
+pub admitted-exactly : (h : ℕ) → (admitted h ≡ true) ↔ ((128 ≤ h) × (h ≤ 512) × (h % 8 ≡ 0))
+admitted-exactly = exactly.admitted-exactly
+
+-- past the end of a list `getD` gives its last argument, 0
+pub sessions-exactly : (s : Session)
+    → (isSession s ≡ true)
+    ↔ ((128 ≤ s .bits)
+    × (s .bits ≤ 512)
+    × (s .bits % 8 ≡ 0)
+    × (s .taken ≤ 2 ^ 64 - 161)
+    × ((k : ℕ) → s .taken % msizeOf s ≤ k → getD (bitsOf (s .waiting)) k 0 ≡ 0)
+    × ((k : ℕ) → chainingOf s ≤ k → getD (s .chaining) k 0 ≡ 0))
+sessions-exactly = exactly.sessions-exactly
 
 -- ---- padding
 

@@ -6,6 +6,7 @@ pub mod Numbers
 pub mod Counter
 pub mod Placed
 pub mod Refusals
+pub mod Lowest
 pub mod Square
 pub mod UpperHalfZero
 pub mod Undone

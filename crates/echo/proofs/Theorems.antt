@@ -1,10 +1,10 @@
 -- The theorems of this crate that the pages quote, each closed: what it assumes stands in its statement. Assumes nothing.
-use mathlib.Core.Path.{_≡_}
-use mathlib.Core.Bool.{false, true}
+use mathlib.Core.Path.{_≡_, refl}
+use mathlib.Core.Bool.{false, not, true, _||_}
 use mathlib.Core.Logic.{_⊎_, _↔_}
 use mathlib.Core.List.{List, [], _∷_, _++_}
 use Prim.Native.Nat.{ℕ, suc, _+_, _*_, _-_, _/_, _%_, _^_, _<_, _≤_, min}
-use lib.Dec.{lit<, ltb}
+use lib.Dec.{eqb, lit<, ltb}
 use lib.ListN.{drop, getD, length, replicate, take}
 use Rattle.aes_round.specs.Bytes.{Bytes, tab, xorBytes}
 use Rattle.aes_round.specs.ByTables.{mixNumbers, rowTable, tableRound}
@@ -20,10 +20,11 @@ use Rattle.echo.specs.declared.session.Session.{Session}
 use Rattle.echo.specs.Bits.{bitsOf, byteBits, packed}
 use Rattle.echo.specs.Compression.{compress, fold}
 use Rattle.echo.specs.Digest.{bitDigestOf, block, blockCount, counterAt, digestOf, initial, iterate}
-use Rattle.echo.specs.Families.{blockSize, chainingSize, either, modeNumber, roundCount}
+use Rattle.echo.specs.Families.{blockSize, chainingSize, either, modeNumber, roundCount, sizesFit}
 use Rattle.echo.specs.Numbers.{halves, littleEndian}
 use Rattle.echo.specs.Padding.{pad, padding}
 use Rattle.echo.specs.Pieces.{addAll, joined}
+use Rattle.echo.specs.Refusals.{Lowest, Refusal, _when_, ascends, counterTooHigh, firstOf, noSalt}
 use Rattle.echo.specs.Routines.{compressLeaves, compressRefusal, compressWideLeaves, compressWideRefusal}
 use Rattle.echo.specs.Routines.{roundsBackLeave, roundsBackWideLeave, roundsLeave, roundsRefusal, roundsWideLeave, roundsWideRefusal}
 use Rattle.echo.specs.Session.{
@@ -34,6 +35,7 @@ use Rattle.echo.specs.Session.{
   addBytes,
   admitted,
   allZero,
+  behindPart,
   bitLimit,
   blank,
   blockOf,
@@ -48,10 +50,12 @@ use Rattle.echo.specs.Session.{
   openAnswer,
   openRefusal,
   opened,
+  otherSize,
   readAnswer,
   readLeaves,
   readRefusal,
   roundsOf,
+  setBelow,
 }
 use Rattle.echo.specs.SinglePipe.{compress51, compress52}
 use Rattle.echo.specs.Square.{bigMixColumns, bigShiftRows, bigSubWords, counterKey, keysFrom, rounds, roundsBack, wideKey, wideKeysFrom, word}
@@ -61,6 +65,7 @@ use Rattle.echo.proofs.Laws.ByTables as by-tables
 use Rattle.echo.proofs.Laws.Continued as continued
 use Rattle.echo.proofs.Laws.Exactly as exactly
 use Rattle.echo.proofs.Laws.Folded as folded
+use Rattle.echo.proofs.Laws.Lowest as lowest
 use Rattle.echo.proofs.Laws.Marked as marked
 use Rattle.echo.proofs.Laws.MixedNumbers as mixed-numbers
 use Rattle.echo.proofs.Laws.Numbers as numbers-as-bytes
@@ -127,6 +132,87 @@ pub a-refused-digest-of-bits-leaves-the-room : (k : ℕ) (mode : Mode) (h : ℕ)
     → digestBitsRefusal h (length salt) message count (length room) ≡ suc k
     → digestBitsLeaves mode h salt message count room ≡ room
 a-refused-digest-of-bits-leaves-the-room = refusing.a-refused-digest-of-bits-leaves-the-room
+
+-- ---- of the refusals that apply the lowest is given
+
+pub the-first-of-a-list-that-ascends-is-the-lowest : (l : List Refusal) → ascends l ≡ true → Lowest (firstOf l) l
+the-first-of-a-list-that-ascends-is-the-lowest = lowest.lowest-of
+
+pub a-list-has-one-lowest : (n m : ℕ) (l : List Refusal) → Lowest n l → Lowest m l → n ≡ m
+a-list-has-one-lowest = lowest.one-lowest
+
+pub an-opening-is-refused-by-the-lowest : (h saltLength : ℕ)
+    → Lowest (openRefusal h saltLength) ((1 when not (admitted h)) ∷ (2 when noSalt saltLength) ∷ [])
+unfolding openRefusal
+an-opening-is-refused-by-the-lowest h saltLength = lowest.lowest-of _ refl
+
+pub a-piece-is-refused-by-the-lowest : (s : Session) (piece : List ℕ) (count : ℕ)
+    → Lowest (addBitsRefusal s piece count)
+    ((3 when not (isSession s))
+    ∷ (4 when ltb bitLimit (s .taken + count))
+    ∷ (6 when otherSize (length piece) count)
+    ∷ (16 when behindPart (s .taken) count)
+    ∷ (17 when setBelow piece count)
+    ∷ [])
+unfolding addBitsRefusal
+a-piece-is-refused-by-the-lowest s piece count = lowest.lowest-of _ refl
+
+pub a-reading-is-refused-by-the-lowest : (s : Session) (room : ℕ)
+    → Lowest (readRefusal s room) ((3 when not (isSession s)) ∷ (5 when ltb room (s .bits / 8)) ∷ [])
+unfolding readRefusal
+a-reading-is-refused-by-the-lowest s room = lowest.lowest-of _ refl
+
+pub a-digest-of-bits-is-refused-by-the-lowest : (h saltLength : ℕ) (message : List ℕ) (count room : ℕ)
+    → Lowest (digestBitsRefusal h saltLength message count room)
+    ((1 when not (admitted h))
+    ∷ (2 when noSalt saltLength)
+    ∷ (4 when ltb bitLimit count)
+    ∷ (5 when ltb room (h / 8))
+    ∷ (6 when otherSize (length message) count)
+    ∷ (17 when setBelow message count)
+    ∷ [])
+unfolding digestBitsRefusal
+a-digest-of-bits-is-refused-by-the-lowest h saltLength message count room = lowest.lowest-of _ refl
+
+pub a-digest-is-refused-by-the-lowest : (h saltLength messageLength room : ℕ)
+    → Lowest (digestRefusal h saltLength messageLength room)
+    ((1 when not (admitted h))
+    ∷ (2 when noSalt saltLength)
+    ∷ (4 when ltb limit messageLength)
+    ∷ (5 when ltb room (h / 8))
+    ∷ [])
+unfolding digestRefusal
+a-digest-is-refused-by-the-lowest h saltLength messageLength room = lowest.lowest-of _ refl
+
+pub rounds-are-refused-by-the-lowest : (squareLength count counter saltLength : ℕ)
+    → Lowest (roundsRefusal squareLength count counter saltLength)
+    ((2 when noSalt saltLength)
+    ∷ (6 when not (eqb squareLength 256) || not (eqb count 8 || eqb count 10))
+    ∷ (7 when counterTooHigh counter)
+    ∷ [])
+unfolding roundsRefusal
+rounds-are-refused-by-the-lowest squareLength count counter saltLength = lowest.lowest-of _ refl
+
+pub a-compression-is-refused-by-the-lowest : (mode : Mode) (chainingLength blockLength counter saltLength : ℕ)
+    → Lowest (compressRefusal mode chainingLength blockLength counter saltLength)
+    ((2 when noSalt saltLength)
+    ∷ (6 when not (sizesFit mode chainingLength blockLength))
+    ∷ (7 when counterTooHigh counter)
+    ∷ [])
+unfolding compressRefusal
+a-compression-is-refused-by-the-lowest mode chainingLength blockLength counter saltLength = lowest.lowest-of _ refl
+
+pub wide-rounds-are-refused-by-the-lowest : (squareLength count saltLength : ℕ)
+    → Lowest (roundsWideRefusal squareLength count saltLength)
+    ((2 when noSalt saltLength) ∷ (6 when not (eqb squareLength 256) || not (eqb count 8 || eqb count 10)) ∷ [])
+unfolding roundsWideRefusal
+wide-rounds-are-refused-by-the-lowest squareLength count saltLength = lowest.lowest-of _ refl
+
+pub a-wide-compression-is-refused-by-the-lowest : (mode : Mode) (chainingLength blockLength saltLength : ℕ)
+    → Lowest (compressWideRefusal mode chainingLength blockLength saltLength)
+    ((2 when noSalt saltLength) ∷ (6 when not (sizesFit mode chainingLength blockLength)) ∷ [])
+unfolding compressWideRefusal
+a-wide-compression-is-refused-by-the-lowest mode chainingLength blockLength saltLength = lowest.lowest-of _ refl
 
 -- ---- the digest is the paper's
 

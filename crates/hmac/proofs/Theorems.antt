@@ -1,17 +1,21 @@
 -- The theorems of this crate that the pages quote, each closed: what it assumes stands in its statement. Assumes nothing.
-use mathlib.Core.Path.{_≡_}
-use mathlib.Core.Bool.{false, true}
+use mathlib.Core.Path.{_≡_, refl}
+use mathlib.Core.Bool.{false, not, true}
 use mathlib.Core.Logic.{_↔_}
 use mathlib.Core.List.{List, [], _∷_, _++_}
 use Prim.Native.Nat.{ℕ, suc, _+_, _*_, _/_, _%_, _<_, _≤_}
+use lib.Dec.{ltb}
 use lib.ListN.{drop, length, replicate}
 use Rattle.echo.specs.declared.mode.Mode.the-variants.{DoublePipe}
 use Rattle.echo.specs.Pieces.{joined}
+use Rattle.echo.specs.Refusals.{Lowest, _when_, noSalt}
 use Rattle.echo.specs.Session.{addBytes, admitted, bitLimit, isSession, limit, sessionDigest}
+use Rattle.echo.proofs.Theorems as echo
 use Rattle.hmac.specs.declared.tag_session.TagSession.{TagSession}
 use Rattle.hmac.specs.DoublePipe.{blockSize, digestOf}
 use Rattle.hmac.specs.Hmac.{keyBlock, tagOf}
-use Rattle.hmac.specs.Routines.{checkAnswer, checkRefusal, makeLeaves, makeRefusal, verifyRefusal}
+use Rattle.hmac.specs.Routines.{checkAnswer, checkRefusal, makeLeaves, makeRefusal, tooLong, verifyRefusal}
+use Rattle.hmac.specs.Same.{same}
 use Rattle.hmac.specs.TagPieces.{addAllTag}
 use Rattle.hmac.specs.TagSession.{
   addTagAnswer,
@@ -67,6 +71,55 @@ pub a-refused-check-at-once-says-no : (k h : ℕ) (salt key message tag : List �
     → checkRefusal h (length salt) (length key) (length message) ≡ suc k
     → checkAnswer h salt key message tag .yes ≡ false
 a-refused-check-at-once-says-no = refusing.a-refused-check-at-once-says-no
+
+-- ---- of the refusals that apply the lowest is given
+
+pub a-tag-opening-is-refused-by-the-lowest : (h saltLength keyLength : ℕ)
+    → Lowest (openTagRefusal h saltLength keyLength)
+    ((1 when not (admitted h)) ∷ (2 when noSalt saltLength) ∷ (4 when ltb limit keyLength) ∷ [])
+unfolding openTagRefusal
+a-tag-opening-is-refused-by-the-lowest h saltLength keyLength = echo.the-first-of-a-list-that-ascends-is-the-lowest _ refl
+
+pub a-piece-of-a-tag-is-refused-by-the-lowest : (t : TagSession) (pieceLength : ℕ)
+    → Lowest (addTagRefusal t pieceLength)
+    ((3 when not (isTagSession t)) ∷ (4 when ltb bitLimit (t .inner .taken + 8 * pieceLength)) ∷ [])
+unfolding addTagRefusal
+a-piece-of-a-tag-is-refused-by-the-lowest t pieceLength = echo.the-first-of-a-list-that-ascends-is-the-lowest _ refl
+
+pub reading-a-tag-is-refused-by-the-lowest : (t : TagSession) (room : ℕ)
+    → Lowest (readTagRefusal t room) ((3 when not (isTagSession t)) ∷ (5 when ltb room (t .outer .bits / 8)) ∷ [])
+unfolding readTagRefusal
+reading-a-tag-is-refused-by-the-lowest t room = echo.the-first-of-a-list-that-ascends-is-the-lowest _ refl
+
+pub checking-a-tag-is-refused-by-the-lowest : (t : TagSession) → Lowest (checkTagRefusal t) ((3 when not (isTagSession t)) ∷ [])
+unfolding checkTagRefusal
+checking-a-tag-is-refused-by-the-lowest t = echo.the-first-of-a-list-that-ascends-is-the-lowest _ refl
+
+pub a-tag-at-once-is-refused-by-the-lowest : (h saltLength keyLength messageLength room : ℕ)
+    → Lowest (makeRefusal h saltLength keyLength messageLength room)
+    ((1 when not (admitted h))
+    ∷ (2 when noSalt saltLength)
+    ∷ (4 when tooLong h keyLength messageLength)
+    ∷ (5 when ltb room (h / 8))
+    ∷ [])
+unfolding makeRefusal
+a-tag-at-once-is-refused-by-the-lowest h saltLength keyLength messageLength room = echo.the-first-of-a-list-that-ascends-is-the-lowest _ refl
+
+pub a-check-at-once-is-refused-by-the-lowest : (h saltLength keyLength messageLength : ℕ)
+    → Lowest (checkRefusal h saltLength keyLength messageLength)
+    ((1 when not (admitted h)) ∷ (2 when noSalt saltLength) ∷ (4 when tooLong h keyLength messageLength) ∷ [])
+unfolding checkRefusal
+a-check-at-once-is-refused-by-the-lowest h saltLength keyLength messageLength = echo.the-first-of-a-list-that-ascends-is-the-lowest _ refl
+
+pub verifying-is-refused-by-the-lowest : (h : ℕ) (salt key message tag : List ℕ)
+    → Lowest (verifyRefusal h salt key message tag)
+    ((1 when not (admitted h))
+    ∷ (2 when noSalt (length salt))
+    ∷ (4 when tooLong h (length key) (length message))
+    ∷ (19 when not (same (tagOf h salt key message) tag))
+    ∷ [])
+unfolding verifyRefusal
+verifying-is-refused-by-the-lowest h salt key message tag = echo.the-first-of-a-list-that-ascends-is-the-lowest _ refl
 
 -- ---- the tag is the standard's
 

@@ -35,5 +35,6 @@ pub mod States
 pub mod Kept
 pub mod Continued
 pub mod Opened
+pub mod ContinuedBytes
 pub mod AtOnce
 pub mod Pieces

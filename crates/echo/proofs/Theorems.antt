@@ -1,6 +1,6 @@
 -- The theorems of this crate that the pages quote, each closed: what it assumes stands in its statement. Assumes nothing.
 use mathlib.Core.Path.{_≡_, refl}
-use mathlib.Core.Bool.{false, not, true, _||_}
+use mathlib.Core.Bool.{Bool, false, not, true, _||_}
 use mathlib.Core.Logic.{_⊎_, _↔_}
 use mathlib.Core.List.{List, [], _∷_, _++_}
 use Prim.Native.Nat.{ℕ, suc, _+_, _*_, _-_, _/_, _%_, _^_, _<_, _≤_, min}
@@ -55,6 +55,7 @@ use Rattle.echo.specs.Session.{
   readLeaves,
   readRefusal,
   roundsOf,
+  sessionDigest,
   setBelow,
 }
 use Rattle.echo.specs.SinglePipe.{compress51, compress52}
@@ -63,6 +64,7 @@ use Rattle.echo.proofs.ARefusalChangesNothing as refusing
 use Rattle.echo.proofs.Laws.AtOnce as at-once
 use Rattle.echo.proofs.Laws.ByTables as by-tables
 use Rattle.echo.proofs.Laws.Continued as continued
+use Rattle.echo.proofs.Laws.ContinuedBytes as continued-bytes
 use Rattle.echo.proofs.Laws.Exactly as exactly
 use Rattle.echo.proofs.Laws.Folded as folded
 use Rattle.echo.proofs.Laws.Lowest as lowest
@@ -140,6 +142,17 @@ the-first-of-a-list-that-ascends-is-the-lowest = lowest.lowest-of
 
 pub a-list-has-one-lowest : (n m : ℕ) (l : List Refusal) → Lowest n l → Lowest m l → n ≡ m
 a-list-has-one-lowest = lowest.one-lowest
+
+-- a number of a list that ascends is given exactly where its condition holds and none before it is given
+pub a-number-is-given-exactly-where-none-before-it-is : (before after : List Refusal) (n : ℕ) (condition : Bool)
+    → ascends (before ++ (n when condition) ∷ after) ≡ true
+    → (firstOf (before ++ (n when condition) ∷ after) ≡ n) ↔ ((firstOf before ≡ 0) × (condition ≡ true))
+a-number-is-given-exactly-where-none-before-it-is = lowest.given-exactly
+
+pub nothing-is-refused-exactly-where-no-condition-holds : (n : ℕ) (condition : Bool) (rest : List Refusal)
+    → 0 < n
+    → (firstOf ((n when condition) ∷ rest) ≡ 0) ↔ ((condition ≡ false) × (firstOf rest ≡ 0))
+nothing-is-refused-exactly-where-no-condition-holds = lowest.none-exactly
 
 pub an-opening-is-refused-by-the-lowest : (h saltLength : ℕ)
     → Lowest (openRefusal h saltLength) ((1 when not (admitted h)) ∷ (2 when noSalt saltLength) ∷ [])
@@ -322,6 +335,24 @@ pub every-session-continues-the-iteration : (s : Session) (piece : List ℕ) (co
 every-session-continues-the-iteration s piece count room taken c w r =
     let A = sessions.addable s piece count taken in
     let C = continued.continues s (A .is) c w piece count A room r in (C .1, C .2, C .3)
+
+-- the digest of the session itself, whose bits are whole bytes, with a piece of whole bytes behind them
+pub a-session-digest-continues-the-iteration : (s : Session) (piece : List ℕ)
+    → isSession s ≡ true
+    → s .taken % 8 ≡ 0
+    → s .taken + 8 * length piece ≤ bitLimit
+    → length (s .chaining) ≡ 128
+    → length (s .waiting) ≡ 224
+    → let L = s .taken + 8 * length piece in
+    sessionDigest (addBytes s piece)
+    ≡ take (s .bits / 8)
+    (iterate (chainingOf s) (roundsOf s) (s .salt)
+    (take (chainingOf s) (s .chaining))
+    (block (blockOf s)
+    (packed (take (s .taken % msizeOf s) (bitsOf (s .waiting)) ++ (bitsOf piece ++ padding (msizeOf s) (s .bits) L))))
+    (λ i. counterAt (msizeOf s) L (s .taken / msizeOf s + i))
+    (blockCount (msizeOf s) L - s .taken / msizeOf s))
+a-session-digest-continues-the-iteration = continued-bytes.continued-bytes
 
 -- ---- any record
 

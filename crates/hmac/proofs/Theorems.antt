@@ -1,12 +1,16 @@
 -- The theorems of this crate that the pages quote, each closed: what it assumes stands in its statement. Assumes nothing.
-use mathlib.Core.Path.{_≡_, refl}
+use mathlib.Core.Path.{_≡_, refl, ap, _∙_}
 use mathlib.Core.Bool.{false, not, true}
 use mathlib.Core.Logic.{_↔_}
 use mathlib.Core.List.{List, [], _∷_, _++_}
-use Prim.Native.Nat.{ℕ, suc, _+_, _*_, _/_, _%_, _<_, _≤_}
+use Prim.Native.Nat.{ℕ, suc, _+_, _*_, _-_, _/_, _%_, _<_, _≤_}
 use lib.Dec.{ltb}
-use lib.ListN.{drop, length, replicate}
+use lib.ListN.{drop, length, replicate, take}
 use Rattle.echo.specs.declared.mode.Mode.the-variants.{DoublePipe}
+use Rattle.echo.specs.Bits.{bitsOf, packed}
+use Rattle.echo.specs.Digest.{block, blockCount, counterAt, iterate}
+use Rattle.echo.specs.Families.{chainingSize, roundCount}
+use Rattle.echo.specs.Padding.{padding}
 use Rattle.echo.specs.Pieces.{joined}
 use Rattle.echo.specs.Refusals.{Lowest, _when_, noSalt}
 use Rattle.echo.specs.Session.{addBytes, admitted, bitLimit, isSession, limit, sessionDigest}
@@ -33,6 +37,7 @@ use Rattle.hmac.specs.TagSession.{
   readTagRefusal,
 }
 use Rattle.hmac.proofs.ARefusalChangesNothing as refusing
+use Rattle.hmac.proofs.Laws.Iterated as iterated
 use Rattle.hmac.proofs.TheTag as tag
 
 -- ---- a refusal, whose number is k + 1, changes nothing
@@ -262,3 +267,40 @@ pub every-tag-session-is-answered-by-its-two-sessions : (t : TagSession) (piece 
     × (readTagLeaves (addTagAnswer t piece .session) room
     ≡ sessionDigest (addBytes (t .outer) (sessionDigest (addBytes (t .inner) piece))) ++ drop (t .outer .bits / 8) room)
 every-tag-session-is-answered-by-its-two-sessions t piece room is f = tag.every-tag-session-is-answered-by-its-two-sessions t is piece f room
+
+-- the same in the paper's iteration. The inner session, of n bits, is continued over its waiting bits, the piece and the padding; the outer one, which has
+-- taken one block, over the bits of the inner digest and the padding. `chaining` and `waiting` are arrays of these lengths
+pub every-tag-session-continues-the-iteration : (t : TagSession) (piece room : List ℕ)
+    → isTagSession t ≡ true
+    → length (t .inner .chaining) ≡ 128
+    → length (t .inner .waiting) ≡ 224
+    → length (t .outer .chaining) ≡ 128
+    → length (t .outer .waiting) ≡ 224
+    → t .inner .taken + 8 * length piece ≤ bitLimit
+    → t .outer .bits / 8 ≤ length room
+    → let h = t .outer .bits in
+    let salt = t .outer .salt in
+    let c = chainingSize DoublePipe h in
+    let r = roundCount DoublePipe c in
+    let b = blockSize h in
+    let msize = 8 * b in
+    let n = t .inner .taken in
+    let L = n + 8 * length piece in
+    let inner =
+    take (h / 8)
+    (iterate c r salt
+    (take c (t .inner .chaining))
+    (block b (packed (take (n % msize) (bitsOf (t .inner .waiting)) ++ (bitsOf piece ++ padding msize h L))))
+    (λ i. counterAt msize L (n / msize + i))
+    (blockCount msize L - n / msize)) in
+    readTagLeaves (addTagAnswer t piece .session) room
+    ≡ take (h / 8)
+    (iterate c r salt
+    (take c (t .outer .chaining))
+    (block b (packed (bitsOf inner ++ padding msize h (msize + h))))
+    (λ i. counterAt msize (msize + h) (1 + i))
+    (blockCount msize (msize + h) - 1))
+    ++ drop (h / 8) room
+every-tag-session-continues-the-iteration t piece room is ic iw oc ow f r =
+    tag.every-tag-session-is-answered-by-its-two-sessions t is piece f room r .3
+    ∙ ap (λ (l : List ℕ). l ++ drop (t .outer .bits / 8) room) (iterated.tag-continues t piece is f ic iw oc ow)

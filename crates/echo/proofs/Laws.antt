@@ -30,6 +30,7 @@ pub mod Stream
 pub mod Folded
 pub mod SinglePipe
 pub mod Padded
+pub mod LastBlock
 pub mod WholeBytes
 pub mod States
 pub mod Kept

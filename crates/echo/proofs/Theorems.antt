@@ -67,6 +67,7 @@ use Rattle.echo.proofs.Laws.Continued as continued
 use Rattle.echo.proofs.Laws.ContinuedBytes as continued-bytes
 use Rattle.echo.proofs.Laws.Exactly as exactly
 use Rattle.echo.proofs.Laws.Folded as folded
+use Rattle.echo.proofs.Laws.LastBlock as last-block
 use Rattle.echo.proofs.Laws.Lowest as lowest
 use Rattle.echo.proofs.Laws.Marked as marked
 use Rattle.echo.proofs.Laws.MixedNumbers as mixed-numbers
@@ -353,6 +354,16 @@ pub a-session-digest-continues-the-iteration : (s : Session) (piece : List ℕ)
     (λ i. counterAt (msizeOf s) L (s .taken / msizeOf s + i))
     (blockCount (msizeOf s) L - s .taken / msizeOf s))
 a-session-digest-continues-the-iteration = continued-bytes.continued-bytes
+
+-- bytes that fit one block with their padding, behind q blocks: the counter is the length of the message
+pub a-short-rest-is-one-compression : (c r b h q : ℕ) (salt v rest : List ℕ)
+    → 0 < length rest
+    → length rest + 18 < b
+    → let msize = 8 * b in
+    let L = msize * q + 8 * length rest in
+    let padded = packed (bitsOf rest ++ padding msize h L) in
+    iterate c r salt v (block b padded) (λ i. counterAt msize L (q + i)) (blockCount msize L - q) ≡ compress c r (keysFrom L) salt v padded
+a-short-rest-is-one-compression c r b h q salt v rest some short = last-block.last-compression b q rest some short h c r salt v
 
 -- ---- any record
 

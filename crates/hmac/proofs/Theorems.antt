@@ -8,12 +8,14 @@ use lib.Dec.{ltb}
 use lib.ListN.{drop, length, replicate, take}
 use Rattle.echo.specs.declared.mode.Mode.the-variants.{DoublePipe}
 use Rattle.echo.specs.Bits.{bitsOf, packed}
+use Rattle.echo.specs.Compression.{compress}
 use Rattle.echo.specs.Digest.{block, blockCount, counterAt, iterate}
 use Rattle.echo.specs.Families.{chainingSize, roundCount}
 use Rattle.echo.specs.Padding.{padding}
 use Rattle.echo.specs.Pieces.{joined}
 use Rattle.echo.specs.Refusals.{Lowest, _when_, noSalt}
 use Rattle.echo.specs.Session.{addBytes, admitted, bitLimit, isSession, limit, sessionDigest}
+use Rattle.echo.specs.Square.{keysFrom}
 use Rattle.echo.proofs.Theorems as echo
 use Rattle.hmac.specs.declared.tag_session.TagSession.{TagSession}
 use Rattle.hmac.specs.DoublePipe.{blockSize, digestOf}
@@ -304,3 +306,16 @@ pub every-tag-session-continues-the-iteration : (t : TagSession) (piece room : L
 every-tag-session-continues-the-iteration t piece room is ic iw oc ow f r =
     tag.every-tag-session-is-answered-by-its-two-sessions t is piece f room r .3
     ∙ ap (λ (l : List ℕ). l ++ drop (t .outer .bits / 8) room) (iterated.tag-continues t piece is f ic iw oc ow)
+
+-- that outer iteration, from any chaining value and over any digest of h bits, is one compression, whose counter is the length of the outer message
+pub the-outer-iteration-is-one-compression : (h : ℕ) (salt v digest : List ℕ)
+    → admitted h ≡ true
+    → length digest ≡ h / 8
+    → let c = chainingSize DoublePipe h in
+    let r = roundCount DoublePipe c in
+    let b = blockSize h in
+    let msize = 8 * b in
+    let padded = packed (bitsOf digest ++ padding msize h (msize + h)) in
+    iterate c r salt v (block b padded) (λ i. counterAt msize (msize + h) (1 + i)) (blockCount msize (msize + h) - 1)
+    ≡ compress c r (keysFrom (msize + h)) salt v padded
+the-outer-iteration-is-one-compression = iterated.one-compression

@@ -1,5 +1,5 @@
 -- The tag of any tag session after a piece, in the paper's iteration: its inner and its outer session continued. Assumes nothing.
-use mathlib.Core.Path.{_≡_, ap, ap₂, _∙_}
+use mathlib.Core.Path.{_≡_, ap, ap₂, _∙_, subst}
 use mathlib.Core.Bool.{true}
 use mathlib.Core.List.{List, _++_}
 use Prim.Native.Nat.{ℕ, _+_, _*_, _-_, _/_, _%_, _<_, _≤_}
@@ -9,14 +9,16 @@ use lib.ListN.{length, take}
 use Rattle.echo.specs.declared.mode.Mode.{Mode}
 use Rattle.echo.specs.declared.mode.Mode.the-variants.{DoublePipe}
 use Rattle.echo.specs.Bits.{bitsOf, packed}
+use Rattle.echo.specs.Compression.{compress}
 use Rattle.echo.specs.Digest.{block, blockCount, counterAt, iterate}
 use Rattle.echo.specs.Families.{blockSize, chainingSize, roundCount}
 use Rattle.echo.specs.Padding.{padding}
-use Rattle.echo.specs.Session.{addBytes, bitLimit, sessionDigest}
+use Rattle.echo.specs.Session.{addBytes, admitted, bitLimit, sessionDigest}
+use Rattle.echo.specs.Square.{keysFrom}
 use Rattle.echo.proofs.Laws.Continued.{session-digest-long}
 use Rattle.echo.proofs.Laws.Families.{double-block}
 use Rattle.echo.proofs.Laws.Kept.{add-keeps}
-use Rattle.echo.proofs.Theorems.{a-session-digest-continues-the-iteration, sessions-exactly}
+use Rattle.echo.proofs.Theorems.{a-session-digest-continues-the-iteration, a-short-rest-is-one-compression, admitted-exactly, sessions-exactly}
 use Rattle.hmac.specs.declared.tag_session.TagSession.{TagSession}
 use Rattle.hmac.specs.TagSession.{isTagSession}
 use Rattle.hmac.proofs.Laws.TagSessions.{TagFits, tag-fits}
@@ -107,3 +109,29 @@ module _ (t : TagSession) (piece : List ℕ) (is : isTagSession t ≡ true) (fit
       → length (t .outer .waiting) ≡ 224
       → sessionDigest (addBytes (t .outer) d) ≡ outer-by 0 1 (inner-by DoublePipe h salt) (msize + h)
   tag-continues ic iw oc ow = outer-continues oc ow ∙ ap (λ (l : List ℕ). outer-by 0 1 l (msize + h)) (inner-continues ic iw)
+
+-- ---- behind one block, a digest and its padding fit another
+
+module _ (h : ℕ) (salt v digest : List ℕ) (a : admitted h ≡ true) (long : length digest ≡ h / 8) where
+  abbrev b : ℕ
+  b = blockSize DoublePipe h
+
+  abbrev c : ℕ
+  c = chainingSize DoublePipe h
+
+  abbrev padded : ℕ → List ℕ
+  padded L = packed (bitsOf digest ++ padding (8 * b) h L)
+
+  -- of a message of L bits
+  abbrev One : ℕ → Type 0
+  One L =
+      iterate c (roundCount DoublePipe c) salt v (block b (padded L)) (λ i. counterAt (8 * b) L (1 + i)) (blockCount (8 * b) L - 1)
+      ≡ compress c (roundCount DoublePipe c) (keysFrom L) salt v (padded L)
+
+  pub one-compression : One (8 * b + h)
+  one-compression =
+      let A = admitted-exactly h .0 a in
+      let S = double-block h in
+      let sum : 8 * b * 1 + 8 * length digest ≡ 8 * b + h = omega (arith, long, A .2) in
+      subst One sum
+      (a-short-rest-is-one-compression c (roundCount DoublePipe c) b h 1 salt v digest (omega (arith, long, A .0)) (omega (arith, long, A .1)))

@@ -1,11 +1,11 @@
 -- The theorems of this crate that the pages quote, each closed: what it assumes stands in its statement. Assumes nothing.
 use mathlib.Core.Path.{_≡_, refl, ap, _∙_}
-use mathlib.Core.List.{List, [], _∷_}
+use mathlib.Core.List.{List, [], _∷_, _++_}
 use Prim.Native.Nat.{ℕ, _+_, _*_, _<_}
 use lib.ListN.{getD}
 use Rattle.aes_round.specs.Bytes.{Bytes, tab, xor}
 use Rattle.aes_round.specs.Field.{mul}
-use Rattle.aes_round.specs.Marked.{Hold, _gives_}
+use Rattle.aes_round.specs.Marked.{Example, Hold, _gives_}
 use Rattle.aes_round.specs.Mixing.{backward, dot, forward, mixColumn}
 use Rattle.aes_round.specs.Rounds.{aesRound, aesRoundBack}
 use Rattle.aes_round.specs.Numbers.{bytesOf, number, numbers}
@@ -16,6 +16,21 @@ use Rattle.aes_round.proofs.Laws.Mixing as mixing
 use Rattle.aes_round.proofs.Laws.Numbers as numbers
 use Rattle.aes_round.proofs.Laws.Rounds as rounds
 use Rattle.aes_round.proofs.Laws.Substitution as substitution
+
+-- `Hold` skips no entry of its list, wherever it stands
+pub every-example-of-a-list-that-holds-holds : (before after : List Example) (computed expected : List ℕ)
+    → Hold (before ++ (computed gives expected) ∷ after)
+    → computed ≡ expected
+every-example-of-a-list-that-holds-holds [] after computed expected h = h .0
+every-example-of-a-list-that-holds-holds ((c gives e) ∷ before) after computed expected h =
+    every-example-of-a-list-that-holds-holds before after computed expected (h .1)
+
+pub a-false-example-fails-its-list : (before after : List Example) (computed expected : List ℕ)
+    → (computed ≡ expected → ⊥)
+    → Hold (before ++ (computed gives expected) ∷ after)
+    → ⊥
+a-false-example-fails-its-list before after computed expected differs h =
+    differs (every-example-of-a-list-that-holds-holds before after computed expected h)
 
 -- substitution, doubling, mix of a column
 pub the-marked-examples-hold : Hold

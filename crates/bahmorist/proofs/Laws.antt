@@ -1,1 +1,4 @@
 pub mod Modes
+pub mod Lowest
+pub mod Exactly
+pub mod WholeBytes

@@ -6,6 +6,7 @@ pub mod Numbers
 pub mod Counter
 pub mod Placed
 pub mod Refusals
+pub mod Lowest
 pub mod Square
 pub mod UpperHalfZero
 pub mod Undone
@@ -23,15 +24,18 @@ pub mod Families
 pub mod Initial
 pub mod Waiting
 pub mod Sessions
+pub mod Exactly
 pub mod Ends
 pub mod Stream
 pub mod Folded
 pub mod SinglePipe
 pub mod Padded
+pub mod LastBlock
 pub mod WholeBytes
 pub mod States
 pub mod Kept
 pub mod Continued
 pub mod Opened
+pub mod ContinuedBytes
 pub mod AtOnce
 pub mod Pieces

@@ -1,10 +1,10 @@
 -- The theorems of this crate that the pages quote, each closed: what it assumes stands in its statement. Assumes nothing.
-use mathlib.Core.Path.{_≡_}
-use mathlib.Core.Bool.{false, true}
-use mathlib.Core.Logic.{_⊎_}
+use mathlib.Core.Path.{_≡_, refl}
+use mathlib.Core.Bool.{Bool, false, not, true, _||_}
+use mathlib.Core.Logic.{_⊎_, _↔_}
 use mathlib.Core.List.{List, [], _∷_, _++_}
 use Prim.Native.Nat.{ℕ, suc, _+_, _*_, _-_, _/_, _%_, _^_, _<_, _≤_, min}
-use lib.Dec.{lit<, ltb}
+use lib.Dec.{eqb, lit<, ltb}
 use lib.ListN.{drop, getD, length, replicate, take}
 use Rattle.aes_round.specs.Bytes.{Bytes, tab, xorBytes}
 use Rattle.aes_round.specs.ByTables.{mixNumbers, rowTable, tableRound}
@@ -20,10 +20,11 @@ use Rattle.echo.specs.declared.session.Session.{Session}
 use Rattle.echo.specs.Bits.{bitsOf, byteBits, packed}
 use Rattle.echo.specs.Compression.{compress, fold}
 use Rattle.echo.specs.Digest.{bitDigestOf, block, blockCount, counterAt, digestOf, initial, iterate}
-use Rattle.echo.specs.Families.{blockSize, chainingSize, either, modeNumber, roundCount}
+use Rattle.echo.specs.Families.{blockSize, chainingSize, either, modeNumber, roundCount, sizesFit}
 use Rattle.echo.specs.Numbers.{halves, littleEndian}
 use Rattle.echo.specs.Padding.{pad, padding}
 use Rattle.echo.specs.Pieces.{addAll, joined}
+use Rattle.echo.specs.Refusals.{Lowest, Refusal, _when_, ascends, counterTooHigh, firstOf, noSalt}
 use Rattle.echo.specs.Routines.{compressLeaves, compressRefusal, compressWideLeaves, compressWideRefusal}
 use Rattle.echo.specs.Routines.{roundsBackLeave, roundsBackWideLeave, roundsLeave, roundsRefusal, roundsWideLeave, roundsWideRefusal}
 use Rattle.echo.specs.Session.{
@@ -34,6 +35,7 @@ use Rattle.echo.specs.Session.{
   addBytes,
   admitted,
   allZero,
+  behindPart,
   bitLimit,
   blank,
   blockOf,
@@ -48,10 +50,13 @@ use Rattle.echo.specs.Session.{
   openAnswer,
   openRefusal,
   opened,
+  otherSize,
   readAnswer,
   readLeaves,
   readRefusal,
   roundsOf,
+  sessionDigest,
+  setBelow,
 }
 use Rattle.echo.specs.SinglePipe.{compress51, compress52}
 use Rattle.echo.specs.Square.{bigMixColumns, bigShiftRows, bigSubWords, counterKey, keysFrom, rounds, roundsBack, wideKey, wideKeysFrom, word}
@@ -59,7 +64,11 @@ use Rattle.echo.proofs.ARefusalChangesNothing as refusing
 use Rattle.echo.proofs.Laws.AtOnce as at-once
 use Rattle.echo.proofs.Laws.ByTables as by-tables
 use Rattle.echo.proofs.Laws.Continued as continued
+use Rattle.echo.proofs.Laws.ContinuedBytes as continued-bytes
+use Rattle.echo.proofs.Laws.Exactly as exactly
 use Rattle.echo.proofs.Laws.Folded as folded
+use Rattle.echo.proofs.Laws.LastBlock as last-block
+use Rattle.echo.proofs.Laws.Lowest as lowest
 use Rattle.echo.proofs.Laws.Marked as marked
 use Rattle.echo.proofs.Laws.MixedNumbers as mixed-numbers
 use Rattle.echo.proofs.Laws.Numbers as numbers-as-bytes
@@ -126,6 +135,98 @@ pub a-refused-digest-of-bits-leaves-the-room : (k : ℕ) (mode : Mode) (h : ℕ)
     → digestBitsRefusal h (length salt) message count (length room) ≡ suc k
     → digestBitsLeaves mode h salt message count room ≡ room
 a-refused-digest-of-bits-leaves-the-room = refusing.a-refused-digest-of-bits-leaves-the-room
+
+-- ---- of the refusals that apply the lowest is given
+
+pub the-first-of-a-list-that-ascends-is-the-lowest : (l : List Refusal) → ascends l ≡ true → Lowest (firstOf l) l
+the-first-of-a-list-that-ascends-is-the-lowest = lowest.lowest-of
+
+pub a-list-has-one-lowest : (n m : ℕ) (l : List Refusal) → Lowest n l → Lowest m l → n ≡ m
+a-list-has-one-lowest = lowest.one-lowest
+
+-- a number of a list that ascends is given exactly where its condition holds and none before it is given
+pub a-number-is-given-exactly-where-none-before-it-is : (before after : List Refusal) (n : ℕ) (condition : Bool)
+    → ascends (before ++ (n when condition) ∷ after) ≡ true
+    → (firstOf (before ++ (n when condition) ∷ after) ≡ n) ↔ ((firstOf before ≡ 0) × (condition ≡ true))
+a-number-is-given-exactly-where-none-before-it-is = lowest.given-exactly
+
+pub nothing-is-refused-exactly-where-no-condition-holds : (n : ℕ) (condition : Bool) (rest : List Refusal)
+    → 0 < n
+    → (firstOf ((n when condition) ∷ rest) ≡ 0) ↔ ((condition ≡ false) × (firstOf rest ≡ 0))
+nothing-is-refused-exactly-where-no-condition-holds = lowest.none-exactly
+
+pub an-opening-is-refused-by-the-lowest : (h saltLength : ℕ)
+    → Lowest (openRefusal h saltLength) ((1 when not (admitted h)) ∷ (2 when noSalt saltLength) ∷ [])
+unfolding openRefusal
+an-opening-is-refused-by-the-lowest h saltLength = lowest.lowest-of _ refl
+
+pub a-piece-is-refused-by-the-lowest : (s : Session) (piece : List ℕ) (count : ℕ)
+    → Lowest (addBitsRefusal s piece count)
+    ((3 when not (isSession s))
+    ∷ (4 when ltb bitLimit (s .taken + count))
+    ∷ (6 when otherSize (length piece) count)
+    ∷ (16 when behindPart (s .taken) count)
+    ∷ (17 when setBelow piece count)
+    ∷ [])
+unfolding addBitsRefusal
+a-piece-is-refused-by-the-lowest s piece count = lowest.lowest-of _ refl
+
+pub a-reading-is-refused-by-the-lowest : (s : Session) (room : ℕ)
+    → Lowest (readRefusal s room) ((3 when not (isSession s)) ∷ (5 when ltb room (s .bits / 8)) ∷ [])
+unfolding readRefusal
+a-reading-is-refused-by-the-lowest s room = lowest.lowest-of _ refl
+
+pub a-digest-of-bits-is-refused-by-the-lowest : (h saltLength : ℕ) (message : List ℕ) (count room : ℕ)
+    → Lowest (digestBitsRefusal h saltLength message count room)
+    ((1 when not (admitted h))
+    ∷ (2 when noSalt saltLength)
+    ∷ (4 when ltb bitLimit count)
+    ∷ (5 when ltb room (h / 8))
+    ∷ (6 when otherSize (length message) count)
+    ∷ (17 when setBelow message count)
+    ∷ [])
+unfolding digestBitsRefusal
+a-digest-of-bits-is-refused-by-the-lowest h saltLength message count room = lowest.lowest-of _ refl
+
+pub a-digest-is-refused-by-the-lowest : (h saltLength messageLength room : ℕ)
+    → Lowest (digestRefusal h saltLength messageLength room)
+    ((1 when not (admitted h))
+    ∷ (2 when noSalt saltLength)
+    ∷ (4 when ltb limit messageLength)
+    ∷ (5 when ltb room (h / 8))
+    ∷ [])
+unfolding digestRefusal
+a-digest-is-refused-by-the-lowest h saltLength messageLength room = lowest.lowest-of _ refl
+
+pub rounds-are-refused-by-the-lowest : (squareLength count counter saltLength : ℕ)
+    → Lowest (roundsRefusal squareLength count counter saltLength)
+    ((2 when noSalt saltLength)
+    ∷ (6 when not (eqb squareLength 256) || not (eqb count 8 || eqb count 10))
+    ∷ (7 when counterTooHigh counter)
+    ∷ [])
+unfolding roundsRefusal
+rounds-are-refused-by-the-lowest squareLength count counter saltLength = lowest.lowest-of _ refl
+
+pub a-compression-is-refused-by-the-lowest : (mode : Mode) (chainingLength blockLength counter saltLength : ℕ)
+    → Lowest (compressRefusal mode chainingLength blockLength counter saltLength)
+    ((2 when noSalt saltLength)
+    ∷ (6 when not (sizesFit mode chainingLength blockLength))
+    ∷ (7 when counterTooHigh counter)
+    ∷ [])
+unfolding compressRefusal
+a-compression-is-refused-by-the-lowest mode chainingLength blockLength counter saltLength = lowest.lowest-of _ refl
+
+pub wide-rounds-are-refused-by-the-lowest : (squareLength count saltLength : ℕ)
+    → Lowest (roundsWideRefusal squareLength count saltLength)
+    ((2 when noSalt saltLength) ∷ (6 when not (eqb squareLength 256) || not (eqb count 8 || eqb count 10)) ∷ [])
+unfolding roundsWideRefusal
+wide-rounds-are-refused-by-the-lowest squareLength count saltLength = lowest.lowest-of _ refl
+
+pub a-wide-compression-is-refused-by-the-lowest : (mode : Mode) (chainingLength blockLength saltLength : ℕ)
+    → Lowest (compressWideRefusal mode chainingLength blockLength saltLength)
+    ((2 when noSalt saltLength) ∷ (6 when not (sizesFit mode chainingLength blockLength)) ∷ [])
+unfolding compressWideRefusal
+a-wide-compression-is-refused-by-the-lowest mode chainingLength blockLength saltLength = lowest.lowest-of _ refl
 
 -- ---- the digest is the paper's
 
@@ -235,6 +336,50 @@ pub every-session-continues-the-iteration : (s : Session) (piece : List ℕ) (co
 every-session-continues-the-iteration s piece count room taken c w r =
     let A = sessions.addable s piece count taken in
     let C = continued.continues s (A .is) c w piece count A room r in (C .1, C .2, C .3)
+
+-- the digest of the session itself, whose bits are whole bytes, with a piece of whole bytes behind them
+pub a-session-digest-continues-the-iteration : (s : Session) (piece : List ℕ)
+    → isSession s ≡ true
+    → s .taken % 8 ≡ 0
+    → s .taken + 8 * length piece ≤ bitLimit
+    → length (s .chaining) ≡ 128
+    → length (s .waiting) ≡ 224
+    → let L = s .taken + 8 * length piece in
+    sessionDigest (addBytes s piece)
+    ≡ take (s .bits / 8)
+    (iterate (chainingOf s) (roundsOf s) (s .salt)
+    (take (chainingOf s) (s .chaining))
+    (block (blockOf s)
+    (packed (take (s .taken % msizeOf s) (bitsOf (s .waiting)) ++ (bitsOf piece ++ padding (msizeOf s) (s .bits) L))))
+    (λ i. counterAt (msizeOf s) L (s .taken / msizeOf s + i))
+    (blockCount (msizeOf s) L - s .taken / msizeOf s))
+a-session-digest-continues-the-iteration = continued-bytes.continued-bytes
+
+-- bytes that fit one block with their padding, behind q blocks: the counter is the length of the message
+pub a-short-rest-is-one-compression : (c r b h q : ℕ) (salt v rest : List ℕ)
+    → 0 < length rest
+    → length rest + 18 < b
+    → let msize = 8 * b in
+    let L = msize * q + 8 * length rest in
+    let padded = packed (bitsOf rest ++ padding msize h L) in
+    iterate c r salt v (block b padded) (λ i. counterAt msize L (q + i)) (blockCount msize L - q) ≡ compress c r (keysFrom L) salt v padded
+a-short-rest-is-one-compression c r b h q salt v rest some short = last-block.last-compression b q rest some short h c r salt v
+
+-- ---- any record
+
+pub admitted-exactly : (h : ℕ) → (admitted h ≡ true) ↔ ((128 ≤ h) × (h ≤ 512) × (h % 8 ≡ 0))
+admitted-exactly = exactly.admitted-exactly
+
+-- past the end of a list `getD` gives its last argument, 0
+pub sessions-exactly : (s : Session)
+    → (isSession s ≡ true)
+    ↔ ((128 ≤ s .bits)
+    × (s .bits ≤ 512)
+    × (s .bits % 8 ≡ 0)
+    × (s .taken ≤ 2 ^ 64 - 161)
+    × ((k : ℕ) → s .taken % msizeOf s ≤ k → getD (bitsOf (s .waiting)) k 0 ≡ 0)
+    × ((k : ℕ) → chainingOf s ≤ k → getD (s .chaining) k 0 ≡ 0))
+sessions-exactly = exactly.sessions-exactly
 
 -- ---- padding
 

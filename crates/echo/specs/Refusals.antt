@@ -1,7 +1,9 @@
 -- The refusal numbers, and which comes first. Assumes nothing.
-use mathlib.Core.Bool.{Bool, true, false, not}
+use mathlib.Core.Path.{_≡_}
+use mathlib.Core.Bool.{Bool, true, false, not, _&&_}
+use mathlib.Core.Logic.{_⊎_}
 use mathlib.Core.List.{List, [], _∷_}
-use Prim.Native.Nat.{ℕ, zero, suc, _^_, _-_}
+use Prim.Native.Nat.{ℕ, zero, suc, _^_, _-_, _≤_}
 use lib.Dec.{eqb, ltb}
 
 infix 20 _when_
@@ -14,6 +16,24 @@ abbrev pub firstOf : List Refusal → ℕ
 firstOf [] = 0
 firstOf ((n when true) ∷ rest) = n
 firstOf ((n when false) ∷ rest) = firstOf rest
+
+-- the list has the number, with a condition that holds
+abbrev pub Applies : ℕ → List Refusal → Type 0
+Applies number [] = ⊥
+Applies number ((n when condition) ∷ rest) = ((number ≡ n) × (condition ≡ true)) ⊎ Applies number rest
+
+-- the number is the lowest of those that apply, and 0 where none does. The order of the list plays no part
+pub data Lowest (number : ℕ) (l : List Refusal) : Type 0 where
+  lowest : Applies number l → ((other : ℕ) → Applies other l → number ≤ other) → Lowest number l
+  none : number ≡ 0 → ((other : ℕ) → Applies other l → ⊥) → Lowest number l
+
+-- the numbers of a list rise, each above the one before it and the first above a given one, whatever the conditions
+abbrev pub ascendsFrom : ℕ → List Refusal → Bool
+ascendsFrom below [] = true
+ascendsFrom below ((n when condition) ∷ rest) = ltb below n && ascendsFrom n rest
+
+abbrev pub ascends : List Refusal → Bool
+ascends l = ascendsFrom 0 l
 
 -- what is left behind: the first where nothing is refused, the second where something is
 abbrev pub unless : {A : Type 0} → ℕ → A → A → A

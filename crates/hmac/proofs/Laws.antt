@@ -3,6 +3,7 @@ pub mod KeyBlock
 pub mod Keys
 pub mod Opening
 pub mod TagSessions
+pub mod Iterated
 pub mod Texts
 pub mod AtOnce
 pub mod Verified

@@ -1,17 +1,27 @@
 -- The theorems of this crate that the pages quote, each closed: what it assumes stands in its statement. Assumes nothing.
-use mathlib.Core.Path.{_≡_}
-use mathlib.Core.Bool.{false, true}
+use mathlib.Core.Path.{_≡_, refl, ap, _∙_}
+use mathlib.Core.Bool.{false, not, true}
 use mathlib.Core.Logic.{_↔_}
 use mathlib.Core.List.{List, [], _∷_, _++_}
-use Prim.Native.Nat.{ℕ, suc, _+_, _*_, _/_, _%_, _<_, _≤_}
-use lib.ListN.{drop, length, replicate}
+use Prim.Native.Nat.{ℕ, suc, _+_, _*_, _-_, _/_, _%_, _<_, _≤_}
+use lib.Dec.{ltb}
+use lib.ListN.{drop, length, replicate, take}
 use Rattle.echo.specs.declared.mode.Mode.the-variants.{DoublePipe}
+use Rattle.echo.specs.Bits.{bitsOf, packed}
+use Rattle.echo.specs.Compression.{compress}
+use Rattle.echo.specs.Digest.{block, blockCount, counterAt, iterate}
+use Rattle.echo.specs.Families.{chainingSize, roundCount}
+use Rattle.echo.specs.Padding.{padding}
 use Rattle.echo.specs.Pieces.{joined}
+use Rattle.echo.specs.Refusals.{Lowest, _when_, noSalt}
 use Rattle.echo.specs.Session.{addBytes, admitted, bitLimit, isSession, limit, sessionDigest}
+use Rattle.echo.specs.Square.{keysFrom}
+use Rattle.echo.proofs.Theorems as echo
 use Rattle.hmac.specs.declared.tag_session.TagSession.{TagSession}
 use Rattle.hmac.specs.DoublePipe.{blockSize, digestOf}
 use Rattle.hmac.specs.Hmac.{keyBlock, tagOf}
-use Rattle.hmac.specs.Routines.{checkAnswer, checkRefusal, makeLeaves, makeRefusal, verifyRefusal}
+use Rattle.hmac.specs.Routines.{checkAnswer, checkRefusal, makeLeaves, makeRefusal, tooLong, verifyRefusal}
+use Rattle.hmac.specs.Same.{same}
 use Rattle.hmac.specs.TagPieces.{addAllTag}
 use Rattle.hmac.specs.TagSession.{
   addTagAnswer,
@@ -29,6 +39,7 @@ use Rattle.hmac.specs.TagSession.{
   readTagRefusal,
 }
 use Rattle.hmac.proofs.ARefusalChangesNothing as refusing
+use Rattle.hmac.proofs.Laws.Iterated as iterated
 use Rattle.hmac.proofs.TheTag as tag
 
 -- ---- a refusal, whose number is k + 1, changes nothing
@@ -67,6 +78,55 @@ pub a-refused-check-at-once-says-no : (k h : ℕ) (salt key message tag : List �
     → checkRefusal h (length salt) (length key) (length message) ≡ suc k
     → checkAnswer h salt key message tag .yes ≡ false
 a-refused-check-at-once-says-no = refusing.a-refused-check-at-once-says-no
+
+-- ---- of the refusals that apply the lowest is given
+
+pub a-tag-opening-is-refused-by-the-lowest : (h saltLength keyLength : ℕ)
+    → Lowest (openTagRefusal h saltLength keyLength)
+    ((1 when not (admitted h)) ∷ (2 when noSalt saltLength) ∷ (4 when ltb limit keyLength) ∷ [])
+unfolding openTagRefusal
+a-tag-opening-is-refused-by-the-lowest h saltLength keyLength = echo.the-first-of-a-list-that-ascends-is-the-lowest _ refl
+
+pub a-piece-of-a-tag-is-refused-by-the-lowest : (t : TagSession) (pieceLength : ℕ)
+    → Lowest (addTagRefusal t pieceLength)
+    ((3 when not (isTagSession t)) ∷ (4 when ltb bitLimit (t .inner .taken + 8 * pieceLength)) ∷ [])
+unfolding addTagRefusal
+a-piece-of-a-tag-is-refused-by-the-lowest t pieceLength = echo.the-first-of-a-list-that-ascends-is-the-lowest _ refl
+
+pub reading-a-tag-is-refused-by-the-lowest : (t : TagSession) (room : ℕ)
+    → Lowest (readTagRefusal t room) ((3 when not (isTagSession t)) ∷ (5 when ltb room (t .outer .bits / 8)) ∷ [])
+unfolding readTagRefusal
+reading-a-tag-is-refused-by-the-lowest t room = echo.the-first-of-a-list-that-ascends-is-the-lowest _ refl
+
+pub checking-a-tag-is-refused-by-the-lowest : (t : TagSession) → Lowest (checkTagRefusal t) ((3 when not (isTagSession t)) ∷ [])
+unfolding checkTagRefusal
+checking-a-tag-is-refused-by-the-lowest t = echo.the-first-of-a-list-that-ascends-is-the-lowest _ refl
+
+pub a-tag-at-once-is-refused-by-the-lowest : (h saltLength keyLength messageLength room : ℕ)
+    → Lowest (makeRefusal h saltLength keyLength messageLength room)
+    ((1 when not (admitted h))
+    ∷ (2 when noSalt saltLength)
+    ∷ (4 when tooLong h keyLength messageLength)
+    ∷ (5 when ltb room (h / 8))
+    ∷ [])
+unfolding makeRefusal
+a-tag-at-once-is-refused-by-the-lowest h saltLength keyLength messageLength room = echo.the-first-of-a-list-that-ascends-is-the-lowest _ refl
+
+pub a-check-at-once-is-refused-by-the-lowest : (h saltLength keyLength messageLength : ℕ)
+    → Lowest (checkRefusal h saltLength keyLength messageLength)
+    ((1 when not (admitted h)) ∷ (2 when noSalt saltLength) ∷ (4 when tooLong h keyLength messageLength) ∷ [])
+unfolding checkRefusal
+a-check-at-once-is-refused-by-the-lowest h saltLength keyLength messageLength = echo.the-first-of-a-list-that-ascends-is-the-lowest _ refl
+
+pub verifying-is-refused-by-the-lowest : (h : ℕ) (salt key message tag : List ℕ)
+    → Lowest (verifyRefusal h salt key message tag)
+    ((1 when not (admitted h))
+    ∷ (2 when noSalt (length salt))
+    ∷ (4 when tooLong h (length key) (length message))
+    ∷ (19 when not (same (tagOf h salt key message) tag))
+    ∷ [])
+unfolding verifyRefusal
+verifying-is-refused-by-the-lowest h salt key message tag = echo.the-first-of-a-list-that-ascends-is-the-lowest _ refl
 
 -- ---- the tag is the standard's
 
@@ -209,3 +269,53 @@ pub every-tag-session-is-answered-by-its-two-sessions : (t : TagSession) (piece 
     × (readTagLeaves (addTagAnswer t piece .session) room
     ≡ sessionDigest (addBytes (t .outer) (sessionDigest (addBytes (t .inner) piece))) ++ drop (t .outer .bits / 8) room)
 every-tag-session-is-answered-by-its-two-sessions t piece room is f = tag.every-tag-session-is-answered-by-its-two-sessions t is piece f room
+
+-- the same in the paper's iteration. The inner session, of n bits, is continued over its waiting bits, the piece and the padding; the outer one, which has
+-- taken one block, over the bits of the inner digest and the padding. `chaining` and `waiting` are arrays of these lengths
+pub every-tag-session-continues-the-iteration : (t : TagSession) (piece room : List ℕ)
+    → isTagSession t ≡ true
+    → length (t .inner .chaining) ≡ 128
+    → length (t .inner .waiting) ≡ 224
+    → length (t .outer .chaining) ≡ 128
+    → length (t .outer .waiting) ≡ 224
+    → t .inner .taken + 8 * length piece ≤ bitLimit
+    → t .outer .bits / 8 ≤ length room
+    → let h = t .outer .bits in
+    let salt = t .outer .salt in
+    let c = chainingSize DoublePipe h in
+    let r = roundCount DoublePipe c in
+    let b = blockSize h in
+    let msize = 8 * b in
+    let n = t .inner .taken in
+    let L = n + 8 * length piece in
+    let inner =
+    take (h / 8)
+    (iterate c r salt
+    (take c (t .inner .chaining))
+    (block b (packed (take (n % msize) (bitsOf (t .inner .waiting)) ++ (bitsOf piece ++ padding msize h L))))
+    (λ i. counterAt msize L (n / msize + i))
+    (blockCount msize L - n / msize)) in
+    readTagLeaves (addTagAnswer t piece .session) room
+    ≡ take (h / 8)
+    (iterate c r salt
+    (take c (t .outer .chaining))
+    (block b (packed (bitsOf inner ++ padding msize h (msize + h))))
+    (λ i. counterAt msize (msize + h) (1 + i))
+    (blockCount msize (msize + h) - 1))
+    ++ drop (h / 8) room
+every-tag-session-continues-the-iteration t piece room is ic iw oc ow f r =
+    tag.every-tag-session-is-answered-by-its-two-sessions t is piece f room r .3
+    ∙ ap (λ (l : List ℕ). l ++ drop (t .outer .bits / 8) room) (iterated.tag-continues t piece is f ic iw oc ow)
+
+-- that outer iteration, from any chaining value and over any digest of h bits, is one compression, whose counter is the length of the outer message
+pub the-outer-iteration-is-one-compression : (h : ℕ) (salt v digest : List ℕ)
+    → admitted h ≡ true
+    → length digest ≡ h / 8
+    → let c = chainingSize DoublePipe h in
+    let r = roundCount DoublePipe c in
+    let b = blockSize h in
+    let msize = 8 * b in
+    let padded = packed (bitsOf digest ++ padding msize h (msize + h)) in
+    iterate c r salt v (block b padded) (λ i. counterAt msize (msize + h) (1 + i)) (blockCount msize (msize + h) - 1)
+    ≡ compress c r (keysFrom (msize + h)) salt v padded
+the-outer-iteration-is-one-compression = iterated.one-compression

@@ -7,3 +7,4 @@ pub mod Fingerprint
 pub mod Example
 pub mod Complete
 pub mod Outcomes
+pub mod Lowest

@@ -1,21 +1,25 @@
 -- The theorems of this crate that the pages quote, each closed: what it assumes stands in its statement. Assumes nothing.
 use mathlib.Core.Path.{_≡_, refl, sym}
+use mathlib.Core.Bool.{_&&_}
 use mathlib.Core.Logic.{_⊎_, _↔_}
-use mathlib.Core.List.{List, _∷_, _++_}
+use mathlib.Core.List.{List, [], _∷_, _++_}
 use Prim.Native.Nat.{ℕ, suc, _+_, _-_, _<_, _≤_}
 use native.Mathlib.Omega.{arith}
+use lib.Dec.{eqb, ltb}
 use lib.ListN.{drop, getD, length, take}
 use Rattle.echo.specs.declared.mode.Mode.the-variants.{DoublePipe}
 use Rattle.echo.specs.Digest.{digestOf}
+use Rattle.echo.specs.Refusals.{Lowest, _when_, noSalt}
 use Rattle.echo.specs.Session.{digestLeaves, digestRefusal}
-use Rattle.steering.specs.Fingerprint.{fingerprintAnswer, fingerprintLeaves, message}
+use Rattle.steering.specs.Fingerprint.{fingerprintAnswer, fingerprintLeaves, message, refusalOf}
 use Rattle.steering.specs.Numbers.{AreBytes}
 use Rattle.steering.specs.Parsing.{AllFit, accepted, parse, refused, tableOf}
-use Rattle.steering.specs.Reading.{readAt}
+use Rattle.steering.specs.Reading.{numberOf, readAt}
 use Rattle.steering.specs.Records.{Fits, bodyLength, bodyOf, kindOf}
 use Rattle.steering.specs.declared.reading.Reading.the-variants.{Found}
 use Rattle.steering.specs.declared.records.Record.{Record}
 use Rattle.steering.proofs.Laws.Fingerprint as fingerprints
+use Rattle.steering.proofs.Laws.Lowest as lowest
 use Rattle.steering.proofs.Laws.Outcomes as outcomes
 
 -- a table is accepted exactly where it is the bytes of its records in order, whose numbers fit their fields, at most 4,096 of them
@@ -66,7 +70,31 @@ pub a-record-is-what-stands-there : (t : List ℕ) (place next : ℕ) (r : Recor
     → (kindOf r ≡ getD t place 0) × (bodyOf r ≡ take (next - (place + 1)) (drop (place + 1) t)) × Fits r
 a-record-is-what-stands-there t place next r b e = outcomes.stands-there t b place next r e
 
+-- of the refusals that apply at a place the lowest is given, and none where a record stands there or the end: past the end; a long table; no kind; a body
+-- cut short
+pub reading-a-table-is-refused-by-the-lowest : (t : List ℕ) (place : ℕ)
+    → let kind = getD t place 0 in
+    Lowest (numberOf (readAt t place))
+    ((6 when ltb (length t) place)
+    ∷ (8 when ltb 4096 (length t))
+    ∷ (9 when ltb place (length t) && eqb (bodyLength kind) 0)
+    ∷ (10 when ltb place (length t) && ltb (length t - (place + 1)) (bodyLength kind))
+    ∷ [])
+reading-a-table-is-refused-by-the-lowest = lowest.read-lowest
+
 -- ---- the fingerprint
+
+-- of the refusals that apply the lowest is given; 9 and 10 are the table's own, exactly where the theorems above say
+pub a-fingerprint-is-refused-by-the-lowest : (saltLength room : ℕ) (t : List ℕ)
+    → AreBytes t
+    → Lowest (fingerprintAnswer saltLength room (parse t) .refusal)
+    ((2 when noSalt saltLength)
+    ∷ (5 when ltb room 32)
+    ∷ (8 when ltb 4096 (length t))
+    ∷ (9 when eqb (refusalOf (parse t)) 9)
+    ∷ (10 when eqb (refusalOf (parse t)) 10)
+    ∷ [])
+a-fingerprint-is-refused-by-the-lowest saltLength room t bytes = lowest.print-lowest t bytes saltLength room
 
 -- two accepted tables have the same message exactly when they have the same records in the same order
 pub same-message-exactly : (t u : List ℕ) (rs qs : List Record)

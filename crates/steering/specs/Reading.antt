@@ -22,3 +22,9 @@ readAt table place =
     (either (ltb 4096 (length table)) (Refused 8 0)
     (either (eqb place (length table)) End
     (recordAt table place (getD table place 0))))
+
+-- the refusal number of what was read; 0 where a record stands there, or the end
+abbrev pub numberOf : Reading → ℕ
+numberOf (Found r next) = 0
+numberOf End = 0
+numberOf (Refused number place) = number

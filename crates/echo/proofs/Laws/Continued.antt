@@ -202,7 +202,7 @@ module _ (s : Session) (is : isSession s ≡ true) (lc : length (s .chaining) �
         iterate c (roundCount mode c) (s .salt) v (block b (packed (own-bits ++ (take count (bitsOf piece) ++ padding (8 * b) h n))))
         (λ i. counterAt (8 * b) n (s .taken / (8 * b) + i)) (blockCount (8 * b) n - s .taken / (8 * b))
 
-    continued-digest : sessionDigest (addBits s piece count) ≡ take (h / 8) final
+    pub continued-digest : sessionDigest (addBits s piece count) ≡ take (h / 8) final
     unfolding sessionDigest stateWith
     continued-digest =
         let B = behind in

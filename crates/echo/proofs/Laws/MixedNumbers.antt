@@ -12,11 +12,8 @@ use Rattle.aes_round.specs.Bytes.{Bytes, tab}
 use Rattle.aes_round.specs.ByTables.{mixNumbers}
 use Rattle.aes_round.specs.Mixing.{forward, mixColumn}
 use Rattle.aes_round.specs.Numbers.{byteOf, bytesOf, number, numbers}
-use Rattle.aes_round.proofs.Laws.Array.{entry-is, getD-column, length-column}
-use Rattle.aes_round.proofs.Laws.Bytes.{is-tab}
-use Rattle.aes_round.proofs.Laws.Every.{agree}
-use Rattle.aes_round.proofs.Laws.Numbers.{are-numbers, bytes-of-numbers, getD-numbers, getD-bytes-of, getD-mix-numbers, number-ext}
-use Rattle.aes_round.proofs.Laws.Rounds.{entry-mix}
+use Rattle.aes_round.proofs.Promises.{agree, are-numbers, bytes-of-numbers, entry-is, entry-mix, getD-bytes-of, getD-column, getD-mix-numbers}
+use Rattle.aes_round.proofs.Promises.{getD-numbers, is-tab, length-column, number-ext}
 use Rattle.echo.specs.Square.{bigMixColumns}
 use Rattle.echo.proofs.Laws.SquareNumbers.{four-by, four-stores, fourBy, numberOf, putBy}
 

@@ -8,7 +8,7 @@ use native.Mathlib.Omega.{arith}
 use borrow.Author.Tests.{eq-eqb}
 use lib.ListN.{getD, length, replicate, take}
 use lib.Seq.{getD-append-add, length-take-le, take-append-add, take-length}
-use Rattle.aes_round.proofs.Laws.Bytes.{length-tab}
+use Rattle.aes_round.proofs.Promises.{length-tab}
 use Rattle.echo.specs.declared.mode.Mode.{Mode}
 use Rattle.echo.specs.declared.session.Session.{Session}
 use Rattle.echo.specs.Bits.{bitsOf, packed}

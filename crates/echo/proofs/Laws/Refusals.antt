@@ -9,7 +9,7 @@ use borrow.Author.Tests.{eq-eqb, eqb-true, le-ltb, lt-ltb, ltb-false, ne-eqb, no
 use lib.Dec.{eqb, ltb}
 use lib.ListN.{drop, getD, length}
 use Rattle.aes_round.specs.Bytes.{tab}
-use Rattle.aes_round.proofs.Laws.Bytes.{lt-or-le}
+use Rattle.aes_round.proofs.Promises.{lt-or-le}
 use Rattle.echo.specs.Bits.{bitsOf}
 use Rattle.echo.specs.Compression.{compress}
 use Rattle.echo.specs.Refusals.{Refusal, _when_, counterTooHigh, firstOf, noSalt, unless}

@@ -11,9 +11,7 @@ use lib.Dec.{ltb}
 use lib.ListN.{drop, getD, getD-replicate, length, length-append, length-replicate, replicate, replicate-append-replicate, set, take}
 use lib.Seq.{drop-at, getD-take, length-take-le, take-at}
 use Rattle.aes_round.specs.Bytes.{xor, xorBytes}
-use Rattle.aes_round.proofs.Laws.Bytes.{same-list}
-use Rattle.aes_round.proofs.Laws.Fill.{Filled, fill-more}
-use Rattle.aes_round.proofs.Laws.Xor.{code-xor, getD-xor, length-xor}
+use Rattle.aes_round.proofs.Promises.{Filled, code-xor, fill-more, getD-xor, length-xor, same-list}
 use Rattle.echo.specs.declared.mode.Mode.the-variants.{DoublePipe}
 use Rattle.echo.specs.declared.session.Answer.{Answer}
 use Rattle.echo.specs.declared.session.Session.{Session}

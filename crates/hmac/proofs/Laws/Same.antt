@@ -12,7 +12,7 @@ use lib.Bits.{and-le-l, and-le-r, bitOr, bitXor, or-add-and}
 use lib.Dec.{eqb}
 use lib.ListN.{getD, length}
 use lib.Seq.{ext-getD}
-use Rattle.aes_round.proofs.Laws.Xor.{code-xor, xor-self, xor-twice, xor-zero-l}
+use Rattle.aes_round.proofs.Promises.{code-xor, xor-self, xor-twice, xor-zero-l}
 use Rattle.aes_round.specs.Bytes.{xor}
 use Rattle.echo.proofs.Laws.Zeros.{both}
 use Rattle.hmac.specs.Same.{same}

@@ -7,7 +7,7 @@ use native.Mathlib.Omega.{arith}
 use borrow.Author.Tests.{eq-eqb, le-ltb}
 use lib.ListN.{drop, length, length-append}
 use Rattle.aes_round.specs.Bytes.{xorBytes}
-use Rattle.aes_round.proofs.Laws.Xor.{length-xor}
+use Rattle.aes_round.proofs.Promises.{length-xor}
 use Rattle.echo.specs.declared.mode.Mode.the-variants.{DoublePipe}
 use Rattle.echo.specs.declared.session.Session.{Session}
 use Rattle.echo.specs.Refusals.{unless}

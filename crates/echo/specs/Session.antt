@@ -65,7 +65,7 @@ made mode bits salt chaining taken waiting = record { mode = mode; bits = bits; 
 abbrev pub blank : Session
 blank = record { mode = DoublePipe; bits = 0; salt = replicate 16 0; chaining = replicate 128 0; taken = 0; waiting = replicate 224 0 }
 
-abbrev pub opened : Mode → ℕ → List ℕ → Session
+unfoldable pub opened : Mode → ℕ → List ℕ → Session
 opened mode h salt = record {
   mode = mode;
   bits = h;

@@ -1,3 +1,4 @@
--- What is proved of the contracts, apart from any function.
+-- What is proved of the contracts, apart from any function. The crates above cite Promises.
 pub mod Laws
 pub mod OneAnswer
+pub mod Promises

@@ -57,7 +57,7 @@ no-feedforward-differs e =
 -- a room of the one byte 7, and no session
 pub written-at-a-refusal-differs :
     readLeaves blank (7 ∷ []) ≡ unless (readRefusal blank 1) (sessionDigest blank ++ drop (0 / 8) (7 ∷ [])) (replicate 1 0) → ⊥
-unfolding readLeaves readRefusal isSession admitted
+unfolding readLeaves readRefusal isSession admitted blank
 written-at-a-refusal-differs e =
     let z : _≡_ {A = ℕ} 7 0 = ap (λ (l : List ℕ). getD l 0 0) e in
     omega arith

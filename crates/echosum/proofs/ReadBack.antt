@@ -4,7 +4,7 @@ use mathlib.Core.Bool.{Bool, true, false, cond, true≢false}
 use mathlib.Core.List.{List, [], _∷_, _++_, append-assoc, append-nil}
 use Prim.Native.Nat.{ℕ, _+_, _*_, _-_, _/_, _%_, _<_, _≤_}
 use native.Mathlib.Omega.{arith}
-use borrow.Author.Tests.{eq-eqb, eqb-true, le-leb, ltb-false, ltb-true}
+use borrow.Author.Tests.{eqb-true, le-leb, ltb-false, ltb-true}
 use lib.Dec.{eqb, ltb}
 use lib.ListN.{drop, length, length-append, replicate}
 use lib.Seq.{append-snoc, drop-at, take-all, take-at}

@@ -19,7 +19,6 @@ use Rattle.echo.specs.Session.{admitted, allZero, bitLimit, digestBitsRe
 use Rattle.echo.specs.Session.{setBelow}
 use Rattle.echo.specs.Square.{wideKeysFrom}
 use Rattle.echo.specs.declared.mode.Mode.{Mode}
-use Rattle.echo.specs.declared.session.Answer.{Answer}
 use Rattle.echo.specs.declared.session.Session.{Session}
 use Rattle.echo.proofs.Laws.Bits.{Sized, whole-sized}
 use Rattle.echo.proofs.Laws.Families.{Sizes, sizes-fit}

@@ -1,5 +1,5 @@
 -- What the crates above may cite of this one, besides its specs, its contracts and its theorems (Theorems.antt): each promise is in the words of specs/,
--- and its proof is a law of this crate. Assumes nothing.
+-- and its proof is a law of this crate. The invariant of the loops that fill a list, which all of them share, stands here whole. Assumes nothing.
 use mathlib.Core.Path.{_≡_, refl, sym, _∙_, subst}
 use mathlib.Core.Bool.{Bool}
 use mathlib.Core.List.{List, [], _∷_}
@@ -278,12 +278,8 @@ module _ (n : ℕ) where
   pub are-numbers : (s l : List ℕ) → length l ≡ n → ((k : ℕ) → k < n → getD l k 0 ≡ number (λ p. getD s (4 * k + p) 0)) → l ≡ numbers n s
   are-numbers = words.are-numbers n
 
-  -- byte k of all, and byte p of number k
   pub byte-of-numbers : (l : List ℕ) (k : ℕ) → k < 4 * n → getD (bytesOf n l) k 0 ≡ byteOf (getD l (k / 4) 0) (k % 4)
   byte-of-numbers = words.byte-of-numbers n
-
-  pub getD-bytes-of : (l : List ℕ) (k p : ℕ) → k < n → p < 4 → getD (bytesOf n l) (4 * k + p) 0 ≡ byteOf (getD l k 0) p
-  getD-bytes-of = words.getD-bytes-of n
 
   pub are-bytes-of : (l s : List ℕ) → length s ≡ 4 * n → ((k : ℕ) → k < 4 * n → getD s k 0 ≡ byteOf (getD l (k / 4) 0) (k % 4)) → s ≡ bytesOf n l
   are-bytes-of = words.are-bytes-of n

@@ -66,10 +66,6 @@ module _ (mode : Mode) (h : ℕ) (salt : List ℕ) where
   unfolding opened
   opened-bits = refl
 
-  pub opened-salt : opened mode h salt .salt ≡ salt
-  unfolding opened
-  opened-salt = refl
-
   pub opened-taken : opened mode h salt .taken ≡ 0
   unfolding opened
   opened-taken = refl

@@ -94,7 +94,8 @@ module _ (h : ℕ) (salt key : List ℕ) (x : Answer) (e : x ≡ openAnswer Doub
           keyed pad s d =
               d
               ∙ ap (λ (f : Session). begunWith f (k .bytes) pad) fresh
-              ∙ ap (λ (n : ℕ). let b = blockSize n in addBytes (opened h salt) (xorBytes b (take b (k .bytes)) (replicate b pad))) (opened-bits DoublePipe h salt)
+              ∙ ap (λ (n : ℕ). let b = blockSize n in addBytes (opened h salt) (xorBytes b (take b (k .bytes)) (replicate b pad)))
+              (opened-bits DoublePipe h salt)
               ∙ ap (λ (l : List ℕ). addBytes (opened h salt) (xorBytes (blockSize h) l (replicate (blockSize h) pad))) (K none)
 
           by : (l : Bool) → ltb limit (length key) ≡ l

@@ -4,7 +4,6 @@ pub mod Xor
 pub mod Linear
 pub mod Field
 pub mod Array
-pub mod Fill
 pub mod Substitution
 pub mod Mixing
 pub mod Rounds

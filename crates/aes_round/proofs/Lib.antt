@@ -1,4 +1,5 @@
--- What is proved of the definitions in specs/, apart from any function: the crates above cite it.
-pub mod Laws
+-- What is proved of the definitions in specs/, apart from any function. The crates above cite Promises and Theorems; Laws is closed to them.
+mod Laws
 pub mod OneAnswer
+pub mod Promises
 pub mod Theorems

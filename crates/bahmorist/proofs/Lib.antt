@@ -1,4 +1,4 @@
 -- What is proved of the contracts, apart from any function.
-pub mod Laws
+mod Laws
 pub mod OneAnswer
 pub mod Theorems

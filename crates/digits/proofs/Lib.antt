@@ -1,3 +1,4 @@
--- What is proved of the contracts, apart from any function.
-pub mod Laws
+-- What is proved of the contracts, apart from any function. The crates above cite Promises; Laws is closed to them.
+mod Laws
 pub mod OneAnswer
+pub mod Promises

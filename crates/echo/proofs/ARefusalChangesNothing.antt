@@ -64,5 +64,5 @@ module _ (k : ℕ) where
   a-refused-digest-of-bits-leaves-the-room mode h salt message count room e = rw e refl
 
 pub the-blank-session-is-none : isSession blank ≡ false
-unfolding isSession admitted
+unfolding isSession admitted blank
 the-blank-session-is-none = refl

@@ -11,7 +11,7 @@ use native.Mathlib.Omega.{arith}
 use lib.ListN.{length}
 use Rattle.aes_round.specs.Bytes.{Bytes, xorBytes}
 use Rattle.aes_round.specs.Mixing.{forward}
-use Rattle.aes_round.proofs.Laws.Rounds.{mix-columns-xor, shift-xor}
+use Rattle.aes_round.proofs.Promises.{mix-columns-xor, shift-xor}
 use Rattle.echo.specs.declared.mode.Mode.{Mode}
 use Rattle.echo.specs.declared.mode.Mode.the-variants.{SinglePipe}
 use Rattle.echo.specs.Compression.{bigFinal, compress, fold}

@@ -62,10 +62,10 @@ made mode bits salt chaining taken waiting = record { mode = mode; bits = bits; 
 -- ---- opening
 
 -- double-pipe, else all zero, and no session
-abbrev pub blank : Session
+unfoldable pub blank : Session
 blank = record { mode = DoublePipe; bits = 0; salt = replicate 16 0; chaining = replicate 128 0; taken = 0; waiting = replicate 224 0 }
 
-abbrev pub opened : Mode → ℕ → List ℕ → Session
+unfoldable pub opened : Mode → ℕ → List ℕ → Session
 opened mode h salt = record {
   mode = mode;
   bits = h;

@@ -4,7 +4,7 @@ use mathlib.Core.Bool.{Bool, true, false, cond, true≢false}
 use mathlib.Core.List.{List, [], _∷_, _++_, append-assoc, append-nil}
 use Prim.Native.Nat.{ℕ, _+_, _*_, _-_, _/_, _%_, _<_, _≤_}
 use native.Mathlib.Omega.{arith}
-use borrow.Author.Tests.{eq-eqb, eqb-true, le-leb, ltb-false, ltb-true}
+use borrow.Author.Tests.{eqb-true, le-leb, ltb-false, ltb-true}
 use lib.Dec.{eqb, ltb}
 use lib.ListN.{drop, length, length-append, replicate}
 use lib.Seq.{append-snoc, drop-at, take-all, take-at}
@@ -12,15 +12,13 @@ use Rattle.lines.specs.Decimal.{decimalOf}
 use Rattle.lines.specs.Hexadecimal.{digitOf, digitsOf}
 use Rattle.lines.specs.Lines.{spread}
 use Rattle.lines.specs.Names.{escapeOf, isPlain}
-use Rattle.lines.proofs.Laws.Decimal.{three-digits}
-use Rattle.lines.proofs.Laws.Lines.{spread-cons, spread-nil}
-use Rattle.lines.proofs.Laws.Names.{mark-none, mark-one, plain-stays}
+use Rattle.lines.proofs.Promises.{mark-none, mark-one, plain-stays, spread-cons, spread-nil, three-digits}
 use Rattle.digits.specs.declared.numbers.Number.{Number}
 use Rattle.digits.specs.declared.salts.Salt.{Salt}
 use Rattle.digits.specs.Hexadecimal.{nibbleOf}
-use Rattle.digits.specs.Numbers.{numberFrom, numberOf}
+use Rattle.digits.specs.Numbers.{numberOf}
 use Rattle.digits.specs.Salts.{saltFrom, saltOf}
-use Rattle.digits.proofs.Laws.Hexadecimal as hexadecimal
+use Rattle.digits.proofs.Promises.{digit, number-begins, number-more, number-none, salt-begins, salt-more, salt-none, small}
 use Rattle.echosum.specs.declared.listed.Listed.{Listed}
 use Rattle.echosum.specs.declared.listed.Terms.{Terms}
 use Rattle.echosum.specs.Bytes.{holdsOf, part, sameOf}
@@ -66,11 +64,11 @@ nibble-digit v h =
     by (ltb v 10)
     (λ t.
     let l = ltb-true v 10 t in
-    let e : nibbleOf (48 + v) ≡ 48 + v - 48 = sym (hexadecimal.digit (48 + v) (omega arith) (omega arith)) in
+    let e : nibbleOf (48 + v) ≡ 48 + v - 48 = digit (48 + v) (omega arith) (omega arith) in
     rw t (e ∙ omega arith))
     (λ t.
     let l = ltb-false v 10 t in
-    let e : nibbleOf (87 + v) ≡ 87 + v - 97 + 10 = sym (hexadecimal.small (87 + v) (omega arith) (omega arith)) in
+    let e : nibbleOf (87 + v) ≡ 87 + v - 97 + 10 = small (87 + v) (omega arith) (omega arith) in
     rw t (e ∙ omega arith))
 
 pub high : (x : ℕ) → x < 256 → nibbleOf (digitOf (x / 16)) ≡ x / 16
@@ -96,17 +94,16 @@ hex-back so-far (x ∷ xs) (one h b) =
 
 salt-back : (so-far bytes : List ℕ) → AreBytes bytes
     → saltFrom so-far (spread digitsOf bytes) ≡ record { «is_good» = true; bytes = so-far ++ bytes }
-unfolding saltFrom
-salt-back so-far [] b = rw (spread-nil digitsOf, append-nil)
+salt-back so-far [] b = rw (spread-nil digitsOf, append-nil) (salt-none so-far)
 salt-back so-far (x ∷ xs) (one h b) =
     let e = salt-back (so-far ++ (x ∷ [])) xs b in
-    let g : x / 16 ≤ 15 = omega arith in
-    let k : x % 16 ≤ 15 = omega arith in
-    rw (spread-cons digitsOf x xs, high x h, low x, both x)
-    (simp (le-leb (x / 16) 15 g, le-leb (x % 16) 15 k) (rw (append-snoc so-far x xs) at e))
+    let g : nibbleOf (digitOf (x / 16)) ≤ 15 = omega (arith, high x h) in
+    let k : nibbleOf (digitOf (x % 16)) ≤ 15 = omega (arith, low x) in
+    rw (spread-cons digitsOf x xs, salt-more so-far (digitOf (x / 16)) (digitOf (x % 16)) (spread digitsOf xs) g k, high x h, low x, both x)
+    (rw (append-snoc so-far x xs) at e)
 
 decimal-digit : (d : ℕ) → d ≤ 9 → nibbleOf (48 + d) ≡ d
-decimal-digit d h = let e : nibbleOf (48 + d) ≡ 48 + d - 48 = sym (hexadecimal.digit (48 + d) (omega arith) (omega arith)) in e ∙ omega arith
+decimal-digit d h = let e : nibbleOf (48 + d) ≡ 48 + d - 48 = digit (48 + d) (omega arith) (omega arith) in e ∙ omega arith
 
 -- ---- the bits
 
@@ -125,16 +122,20 @@ module _ (bits : ℕ) (h : 100 ≤ bits) (g : bits < 1000) where
   length-bits = rw (three-digits bits h g)
 
   bits-back : numberOf (decimalOf bits) ≡ record { «is_good» = true; value = bits }
-  unfolding numberOf numberFrom
   bits-back =
-      rw (
-        three-digits bits h g,
-        decimal-digit (bits / 10 / 10 % 10) (omega arith),
-        decimal-digit (bits / 10 % 10) (omega arith),
-        decimal-digit (bits % 10) (omega arith),
-      )
-      (simp (le-leb (bits / 10 / 10 % 10) 9 (omega arith), le-leb (bits / 10 % 10) 9 (omega arith), le-leb (bits % 10) 9 (omega arith))
-      (ap (λ (n : ℕ). record { «is_good» = true; value = n }) (omega arith)))
+      let a = 48 + bits / 10 / 10 % 10 in
+      let b = 48 + bits / 10 % 10 in
+      let c = 48 + bits % 10 in
+      let x = decimal-digit (bits / 10 / 10 % 10) (omega arith) in
+      let y = decimal-digit (bits / 10 % 10) (omega arith) in
+      let z = decimal-digit (bits % 10) (omega arith) in
+      rw (three-digits bits h g)
+      (number-begins (a ∷ b ∷ c ∷ []) (omega arith) (omega arith)
+      ∙ number-more 0 a (b ∷ c ∷ []) (omega arith)
+      ∙ number-more _ b (c ∷ []) (omega arith)
+      ∙ number-more _ c [] (omega arith)
+      ∙ number-none _
+      ∙ ap (λ (n : ℕ). record { «is_good» = true; value = n }) (omega arith))
 
 -- ---- the fifty bytes of a tag
 
@@ -203,8 +204,7 @@ module _ (bits : ℕ) (isSingle : Bool) (salt : List ℕ) (a : isAdmitted bits �
   mode-back = by isSingle (λ t. rw t) (λ t. rw t)
 
   salt-read : saltOf (spread digitsOf salt) ≡ record { «is_good» = true; bytes = salt }
-  unfolding saltOf
-  salt-read = simp (eq-eqb (length (spread digitsOf salt)) 32 thirty-two) (salt-back [] salt b)
+  salt-read = salt-begins (spread digitsOf salt) thirty-two ∙ salt-back [] salt b
 
   framed : true ≡ framedOf text
   framed =

@@ -12,9 +12,9 @@ use lib.Seq.{drop-at, getD-at, take-take}
 use Rattle.lines.specs.Hexadecimal.{digitOf, digitsOf}
 use Rattle.lines.specs.Lines.{spread}
 use Rattle.lines.specs.Names.{escapeOf, isPlain}
-use Rattle.lines.proofs.Laws.Lines.{spread-cons, spread-nil}
-use Rattle.lines.proofs.Laws.Names.{mark-none, mark-one, plain-stays}
+use Rattle.lines.proofs.Promises.{mark-none, mark-one, plain-stays, spread-cons, spread-nil}
 use Rattle.digits.specs.Hexadecimal.{nibbleOf}
+use Rattle.digits.proofs.Promises.{before-digits, before-small, capital}
 use Rattle.echosum.specs.declared.listed.Listed.{Listed}
 use Rattle.echosum.specs.declared.listed.Terms.{Terms}
 use Rattle.echosum.specs.Bytes.{holdsOf, part, sameOf}
@@ -31,12 +31,10 @@ use Rattle.echosum.proofs.ReadBack.{AreBytes, ReadBack, admitted-bounds
 -- ---- the digits in front
 
 space : nibbleOf 32 ≡ 16
-unfolding nibbleOf
-space = refl
+space = before-digits 32 (omega arith)
 
 backslash : nibbleOf 92 ≡ 16
-unfolding nibbleOf
-backslash = refl
+backslash = before-small 92 (omega arith) (omega arith)
 
 digits-front : (bytes rest : List ℕ) → AreBytes bytes → digitsIn (spread digitsOf bytes ++ (32 ∷ rest)) ≡ 2 * length bytes
 unfolding digitsIn
@@ -48,8 +46,8 @@ digits-front (x ∷ xs) rest (one h b) =
     (simp (le-leb (x / 16) 15 g, le-leb (x % 16) 15 k) (omega (arith, digits-front xs rest b)))
 
 echo-front : (rest : List ℕ) → digitsIn (begins ++ rest) ≡ 2
-unfolding digitsIn nibbleOf
-echo-front rest = refl
+unfolding digitsIn
+echo-front rest = rw (capital 69 (omega arith) (omega arith), capital 67 (omega arith) (omega arith), before-small 72 (omega arith) (omega arith))
 
 -- ---- no tag, and no mark
 

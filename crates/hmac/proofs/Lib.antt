@@ -1,5 +1,5 @@
 -- What is proved of the definitions in specs/, apart from any function.
-pub mod Laws
+mod Laws
 pub mod ARefusalChangesNothing
 pub mod Differences
 pub mod OneAnswer

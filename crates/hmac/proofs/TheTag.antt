@@ -14,11 +14,8 @@ use lib.ListN.{drop, length, length-append, replicate}
 use Rattle.echo.specs.declared.mode.Mode.the-variants.{DoublePipe}
 use Rattle.echo.specs.Pieces.{joined}
 use Rattle.echo.specs.Session.{addBytes, admitted, bitLimit, isSession, limit, sessionDigest}
-use Rattle.echo.proofs.Laws.Families.{double-block}
-use Rattle.echo.proofs.Laws.Kept.{add-counts, add-is-session, add-keeps}
-use Rattle.echo.proofs.Laws.Pieces.{digest-long, joined-lengths, joined-more, joined-none}
-use Rattle.echo.proofs.Laws.Refusals.{done}
-use Rattle.echo.proofs.Laws.Sessions.{admitted-most}
+use Rattle.echo.proofs.Promises.{add-counts, add-is-session, add-keeps, digest-long, done, double-block, joined-lengths, joined-more, joined-none}
+use Rattle.echo.proofs.Promises.{most-bits}
 use Rattle.hmac.specs.declared.at_once.Verdict.{Verdict}
 use Rattle.hmac.specs.declared.tag_session.Checking.{Checking}
 use Rattle.hmac.specs.declared.tag_session.TagAnswer.{TagAnswer}
@@ -47,7 +44,7 @@ the-key-block-is-a-block h salt key a = by (ltb (blockSize h) (length key)) refl
     by : (t : Bool) → ltb (blockSize h) (length key) ≡ t → length (keyBlock (digestOf h salt) (blockSize h) key) ≡ blockSize h
     by true p =
         let S = double-block h in
-        let most = admitted-most DoublePipe h salt true (sym a) refl in
+        let most = most-bits h a in
         rw p (length-with-zeros (blockSize h) (digestOf h salt key) (omega (arith, digest-long DoublePipe h salt a key, most)))
     by false p = rw p (length-with-zeros (blockSize h) key (ltb-false (blockSize h) (length key) p))
 
@@ -67,7 +64,7 @@ module _ (h : ℕ) (salt : List ℕ) where
   pub a-long-key-is-its-digest : (key : List ℕ) → admitted h ≡ true → blockSize h < length key → K0 (digestOf h salt key) ≡ K0 key
   a-long-key-is-its-digest key a l =
       let S = double-block h in
-      let most = admitted-most DoublePipe h salt true (sym a) refl in
+      let most = most-bits h a in
       its-digest (digestOf h salt) (blockSize h) key l (omega (arith, digest-long DoublePipe h salt a key, most))
 
   pub keys-of-one-length-have-different-blocks : (key key′ : List ℕ) → length key ≡ length key′ → length key ≤ blockSize h → K0 key ≡ K0 key′ → key ≡ key′

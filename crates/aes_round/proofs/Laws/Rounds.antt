@@ -1,5 +1,5 @@
--- The steps of a round, the round, and their ways back. The layer above works from these laws: ways back undo in both orders, row
--- shift and column mix go through xor, results are bytes again. Assumes nothing.
+-- The steps of a round, the round, and their ways back: ways back undo in both orders, row shift and column mix go through xor, results are
+-- bytes again. Assumes nothing.
 use mathlib.Core.Path.{_≡_, refl, sym, ap, ap₂, _∙_}
 use mathlib.Core.List.{List, [], _∷_}
 use Prim.Native.Nat.{ℕ, _+_, _*_, _/_, _%_, _<_}

@@ -13,7 +13,7 @@ use Rattle.echo.specs.Families.{modeNumber, sizesFit}
 use Rattle.echo.specs.Refusals.{Refusal, _when_, counterTooHigh, firstOf, noSalt, unless}
 use Rattle.echo.specs.Routines.{compressLeaves, compressRefusal, compressWideLeaves, compressWideRefusal}
 use Rattle.echo.specs.Session.{admitted, bitLimit, digestBitsLeaves, digestBitsRefusal, digestLeaves, digestRefusal, otherSize, setBelow}
-use Rattle.echo.proofs.Laws.Refusals.{compress-number, compress-wide-number, digest-bits-number, digest-whole-number}
+use Rattle.echo.proofs.Promises.{compress-number, compress-wide-number, digest-bits-number, digest-number, too-many}
 use Rattle.echo.proofs.Theorems.{a-refused-compression-leaves-the-chaining-value, a-refused-digest-leaves-the-room}
 use Rattle.echo.proofs.Theorems.{a-refused-digest-of-bits-leaves-the-room}
 use Rattle.echo.proofs.Theorems.{a-refused-wide-compression-leaves-the-chaining-value}
@@ -137,12 +137,21 @@ module _ (n h : ℕ) (salt message : List ℕ) (count : ℕ) (room : List ℕ) w
     six false false false true f = refl
     six false false false false f = refl
 
+    -- the whole bytes are refused by as many
+    whole-number : firstOf
+        ((1 when not (admitted h)) ∷ (2 when noSalt (length salt)) ∷ (4 when ltb bitLimit count) ∷ (5 when ltb (length room) (h / 8)) ∷ [])
+        ≡ digestRefusal h (length salt) (count / 8) (length room)
+    whole-number =
+        ap (λ (c : Bool). firstOf ((1 when not (admitted h)) ∷ (2 when noSalt (length salt)) ∷ (4 when c) ∷ (5 when ltb (length room) (h / 8)) ∷ []))
+        (too-many count)
+        ∙ sym (digest-number h (length salt) (count / 8) (length room))
+
     module _ (none : t ≡ true) where
       refused-by : bits-number-in ≡ unless (digestRefusal h (length salt) (count / 8) (length room)) 6 (digestRefusal h (length salt) (count / 8) (length room))
       refused-by =
           listed-is true none
           ∙ six (not (admitted h)) (noSalt (length salt)) (ltb bitLimit count) (ltb (length room) (h / 8)) (setBelow message count)
-          ∙ ap (λ (k : ℕ). unless k 6 k) (sym (digest-whole-number h (length salt) count (length room)))
+          ∙ ap (λ (k : ℕ). unless k 6 k) whole-number
 
       some : (k : ℕ) → unless k 6 k ≡ 0 → ⊥
       some zero p = omega arith

@@ -1,7 +1,7 @@
 -- Numbers, a digit at a time. Assumes nothing.
-use mathlib.Core.Path.{_≡_, _∙_, sym}
+use mathlib.Core.Path.{_≡_, _∙_, refl, sym}
 use mathlib.Core.Bool.{true}
-use mathlib.Core.List.{List}
+use mathlib.Core.List.{List, [], _∷_}
 use Prim.Native.Nat.{ℕ, _+_, _*_, _<_, _^_, _≤_}
 use native.Mathlib.Nat.{pow-le-pow-right, pow-succ'}
 use native.Mathlib.Numerals.{add-one}
@@ -28,6 +28,14 @@ module _ (i e n : ℕ) (h : i < e) (m : e ≤ 16) (p : n < 10 ^ i) where
 
     pub one-more : 10 * n + w < 10 ^ (i + 1)
     one-more = rw (add-one i, pow-succ') (omega arith)
+
+pub number-none : (n : ℕ) → numberFrom n [] ≡ record { «is_good» = true; value = n }
+unfolding numberFrom
+number-none n = refl
+
+pub number-more : (n x : ℕ) (rest : List ℕ) → nibbleOf x ≤ 9 → numberFrom n (x ∷ rest) ≡ numberFrom (10 * n + nibbleOf x) rest
+unfolding numberFrom
+number-more n x rest h = simp (le-leb (nibbleOf x) 9 h)
 
 module _ (word : List ℕ) where
   pub too-short : length word < 1 → noNumber ≡ numberOf word

@@ -1,7 +1,7 @@
 -- Salts, a pair of digits at a time. Assumes nothing.
-use mathlib.Core.Path.{_≡_, _∙_, sym}
+use mathlib.Core.Path.{_≡_, _∙_, refl, sym}
 use mathlib.Core.Bool.{true}
-use mathlib.Core.List.{List, [], _∷_}
+use mathlib.Core.List.{List, [], _∷_, _++_}
 use Prim.Native.Nat.{ℕ, suc, _+_, _*_, _<_, _≤_}
 use native.Mathlib.Numerals.{add-one}
 use native.Mathlib.Omega.{arith}
@@ -11,6 +11,15 @@ use lib.Seq.{drop-cons, drop-length, take-all, take-suc-set}
 use Rattle.digits.specs.declared.salts.Salt.{Salt}
 use Rattle.digits.specs.Hexadecimal.{nibbleOf}
 use Rattle.digits.specs.Salts.{noSalt, saltFrom, saltOf}
+
+pub salt-none : (bytes : List ℕ) → saltFrom bytes [] ≡ record { «is_good» = true; bytes = bytes }
+unfolding saltFrom
+salt-none bytes = refl
+
+pub salt-more : (bytes : List ℕ) (x y : ℕ) (rest : List ℕ) → nibbleOf x ≤ 15 → nibbleOf y ≤ 15
+    → saltFrom bytes (x ∷ y ∷ rest) ≡ saltFrom (bytes ++ ((16 * nibbleOf x + nibbleOf y) ∷ [])) rest
+unfolding saltFrom
+salt-more bytes x y rest h g = simp (le-leb (nibbleOf x) 15 h, le-leb (nibbleOf y) 15 g)
 
 module _ (word : List ℕ) where
   pub no-salt : (length word ≡ 32 → ⊥) → noSalt ≡ saltOf word

@@ -8,7 +8,7 @@ use native.Mathlib.Omega.{arith}
 use borrow.Author.Tests.{not-false, not-true}
 use lib.Dec.{T, eqb, ltb, ltb→lt}
 use lib.ListN.{drop, drop-of-length-le, getD, length}
-use Rattle.aes_round.proofs.Laws.Every.{agree, below, every}
+use Rattle.aes_round.proofs.Promises.{agree, below, every}
 use Rattle.echo.specs.Bits.{bitsOf, byteBits}
 use Rattle.echo.specs.Families.{either}
 use Rattle.echo.specs.Session.{allZero}

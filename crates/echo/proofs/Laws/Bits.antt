@@ -11,7 +11,7 @@ use lib.ListN.{List·getD-append, List·getD-eq-default, drop, getD, length, len
 use lib.ListN.{replicate-append-replicate, take, take-append-drop}
 use lib.Seq.{drop-append-add, drop-append-le, drop-length, drop-nil, length-take-le, split-at, take-all, take-append-add, take-append-le, take-length}
 use Rattle.aes_round.specs.Bytes.{tab}
-use Rattle.aes_round.proofs.Laws.Bytes.{getD-tab, is-tab, length-tab}
+use Rattle.aes_round.proofs.Promises.{getD-tab, is-tab, length-tab, tab-none}
 use Rattle.echo.specs.Bits.{bitsOf, byteBits, firstByte, packed}
 use Rattle.echo.specs.Session.{allZero}
 use Rattle.echo.proofs.Laws.Zeros.{both, zero-append, zeros-only}
@@ -100,9 +100,12 @@ packed-bits (x ∷ xs) rest =
     ∙ packed-byte (byteBits x) (bitsOf xs ++ rest) (length-byte x)
     ∙ ap₂ (λ (y : ℕ) (l : List ℕ). y ∷ l) (byte-back x) (packed-bits xs rest)
 
+packed-none : packed [] ≡ []
+unfolding packed
+packed-none = tab-none _
+
 pub packed-all : (xs : List ℕ) → packed (bitsOf xs) ≡ xs
-unfolding packed tab
-packed-all xs = sym (ap packed (append-nil (bitsOf xs))) ∙ packed-bits xs [] ∙ append-nil xs
+packed-all xs = sym (ap packed (append-nil (bitsOf xs))) ∙ packed-bits xs [] ∙ ap (λ (l : List ℕ). xs ++ l) packed-none ∙ append-nil xs
 
 pub zero-bits : (n : ℕ) → bitsOf (replicate n 0) ≡ replicate (8 * n) 0
 unfolding bitsOf byteBits

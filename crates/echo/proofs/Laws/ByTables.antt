@@ -13,11 +13,8 @@ use Rattle.aes_round.specs.Bytes.{Bytes}
 use Rattle.aes_round.specs.ByTables.{rowTable, tableRound}
 use Rattle.aes_round.specs.Numbers.{bytesOf, number, numbers}
 use Rattle.aes_round.specs.Rounds.{aesRound}
-use Rattle.aes_round.proofs.Laws.Bytes.{getD-tab}
-use Rattle.aes_round.proofs.Laws.ByTables.{table-round}
-use Rattle.aes_round.proofs.Laws.Fill.{Filled, fill-more, fill-none}
-use Rattle.aes_round.proofs.Laws.Numbers.{byte-is, bytes-of-bytes, bytes-of-numbers, number-ext, number-low, numbers-of-bytes}
-use Rattle.aes_round.proofs.Laws.Rounds.{round-bytes}
+use Rattle.aes_round.proofs.Promises.{Filled, byte-is, bytes-of-bytes, bytes-of-numbers, fill-more, fill-none, getD-tab, number-ext, number-low}
+use Rattle.aes_round.proofs.Promises.{numbers-of-bytes, round-bytes, table-round}
 use Rattle.echo.specs.Numbers.{littleEndian}
 use Rattle.echo.specs.Numbers.{halves}
 use Rattle.echo.specs.Square.{bigMixColumns, bigShiftRows, bigSubWords, rounds, wideKey, wideKeysFrom, word}

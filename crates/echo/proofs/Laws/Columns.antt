@@ -11,10 +11,8 @@ use lib.Seq.{ext-getD, getD-drop, getD-set-other, getD-set-same, getD-take}
 use Rattle.aes_round.specs.Array.{column}
 use Rattle.aes_round.specs.Mixing.{mixColumn}
 use Rattle.aes_round.specs.Rounds.{mixColumns}
-use Rattle.aes_round.proofs.Laws.Array.{entry-is, getD-column, is-array, length-column, tab-array}
-use Rattle.aes_round.proofs.Laws.Bytes.{getD-tab, is-tab, length-tab}
-use Rattle.aes_round.proofs.Laws.Fill.{Filled, fill-all, fill-none}
-use Rattle.aes_round.proofs.Laws.Rounds.{entry-mix, length-mix-columns}
+use Rattle.aes_round.proofs.Promises.{Filled, entry-is, entry-mix, fill-all, fill-none, getD-column, getD-tab, is-array, is-tab, length-column}
+use Rattle.aes_round.proofs.Promises.{length-mix-columns, length-tab, tab-array}
 use Rattle.echo.specs.Placed.{Placed}
 use Rattle.echo.specs.Square.{mixWords}
 use Rattle.echo.proofs.Laws.Placed.{fill-part, part-placed}

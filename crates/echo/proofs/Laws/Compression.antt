@@ -10,9 +10,8 @@ use lib.Bits.{bitXor}
 use lib.ListN.{drop, getD, length, length-append, take}
 use lib.Seq.{getD-drop, getD-take}
 use Rattle.aes_round.specs.Bytes.{tab, xor, xorBytes}
-use Rattle.aes_round.proofs.Laws.Bytes.{getD-tab, length-tab, lt-or-le, same-list, tab-ext}
-use Rattle.aes_round.proofs.Laws.Fill.{Filled, fill-all}
-use Rattle.aes_round.proofs.Laws.Xor.{code-xor, getD-xor, length-xor, xor-assoc, xor-is-tab, xor-zero-l, xor-zero-r}
+use Rattle.aes_round.proofs.Promises.{Filled, code-xor, fill-all, getD-tab, getD-xor, length-tab, length-xor, lt-or-le, same-list, tab-ext, xor-assoc}
+use Rattle.aes_round.proofs.Promises.{xor-is-tab, xor-zero-l, xor-zero-r}
 use Rattle.echo.specs.Compression.{bigFinal, compress, fold, xorSum}
 use Rattle.echo.specs.Placed.{Placed}
 use Rattle.echo.specs.Square.{rounds}

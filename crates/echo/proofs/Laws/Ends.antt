@@ -10,8 +10,7 @@ use borrow.Author.Tests.{eq-eqb, le-ltb, lt-ltb, ne-eqb}
 use lib.Dec.{eqb, ltb}
 use lib.ListN.{drop, getD, getD-replicate, length, length-append, length-replicate, length-set, replicate, replicate-append-replicate, set, take}
 use lib.Seq.{drop-at, getD-set-other, getD-set-same, getD-take, length-take-le, take-all, take-at}
-use Rattle.aes_round.proofs.Laws.Bytes.{lt-or-le, same-list}
-use Rattle.aes_round.proofs.Laws.Xor.{length-xor}
+use Rattle.aes_round.proofs.Promises.{length-xor, lt-or-le, same-list}
 use Rattle.echo.specs.declared.mode.Mode.{Mode}
 use Rattle.echo.specs.Bits.{bitsOf, byteBits, packed}
 use Rattle.echo.specs.Compression.{bigFinal, compress}

@@ -130,19 +130,15 @@ module _ (mode : Mode) (h c : ℕ) (p : c ≡ chainingSize mode h) where
   unfolding blockSize
   rest-is-block = ap (λ (x : ℕ). 256 - x) p
 
--- ---- the blocks of double-pipe in numbers, for whoever knows this crate by its promises alone
+-- ---- the blocks of double-pipe in numbers
 
-pub record DoubleBlock (b : ℕ) : Type 0 where
-  pub block-least : 128 ≤ b
-  pub block-most : b ≤ 192
-
-pub double-block : (h : ℕ) → DoubleBlock (blockSize DoublePipe h)
+pub double-block : (h : ℕ) → (128 ≤ blockSize DoublePipe h) × (blockSize DoublePipe h ≤ 192)
 unfolding chainingSize blockSize
 double-block h = by (leb h 256)
   where
-    by : (t : Bool) → DoubleBlock (256 - either t 64 128)
-    by true = omega arith
-    by false = omega arith
+    by : (t : Bool) → (128 ≤ 256 - either t 64 128) × (256 - either t 64 128 ≤ 192)
+    by true = (omega arith, omega arith)
+    by false = (omega arith, omega arith)
 
 pub block-short : (h : ℕ) → h ≤ 256 → 192 ≡ blockSize DoublePipe h
 block-short h l = rest-is-block DoublePipe h 64 (chaining-double-short DoublePipe h refl l)

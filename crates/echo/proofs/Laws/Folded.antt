@@ -6,9 +6,7 @@ use native.Mathlib.Omega.{arith}
 use lib.ListN.{getD, length}
 use Rattle.aes_round.specs.Array.{entry}
 use Rattle.aes_round.specs.Bytes.{xor, xorBytes}
-use Rattle.aes_round.proofs.Laws.Array.{entry-is}
-use Rattle.aes_round.proofs.Laws.Bytes.{getD-tab, tab-ext}
-use Rattle.aes_round.proofs.Laws.Xor.{xor-assoc, xor-self, xor-swap, xor-tab, xor-zero-l}
+use Rattle.aes_round.proofs.Promises.{entry-is, getD-tab, tab-ext, xor-assoc, xor-self, xor-swap, xor-tab, xor-zero-l}
 use Rattle.echo.specs.Compression.{fold, xorSum}
 use Rattle.echo.specs.Square.{word}
 use Rattle.echo.proofs.Laws.Compression.{sum-ext}

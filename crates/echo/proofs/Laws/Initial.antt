@@ -6,8 +6,7 @@ use Prim.Native.Nat.{ℕ, _+_, _-_, _/_, _%_, _^_, _<_, _≤_}
 use native.Mathlib.Omega.{arith}
 use lib.ListN.{getD, getD-replicate, length-append, length-replicate, replicate}
 use Rattle.aes_round.specs.Bytes.{tab}
-use Rattle.aes_round.proofs.Laws.Bytes.{getD-tab, length-tab, lt-or-le, same-list}
-use Rattle.aes_round.proofs.Laws.Fill.{Filled}
+use Rattle.aes_round.proofs.Promises.{Filled, getD-tab, length-tab, lt-or-le, same-list}
 use Rattle.echo.specs.declared.mode.Mode.{Mode}
 use Rattle.echo.specs.Digest.{initial}
 use Rattle.echo.specs.Families.{chainingSize}

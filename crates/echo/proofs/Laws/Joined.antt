@@ -7,7 +7,7 @@ use native.Mathlib.Omega.{arith}
 use lib.ListN.{List·getD-append, getD, length, length-append}
 use lib.Seq.{getD-append-add}
 use Rattle.aes_round.specs.Bytes.{Bytes}
-use Rattle.aes_round.proofs.Laws.Bytes.{bytes-below, lt-or-le}
+use Rattle.aes_round.proofs.Promises.{bytes-below, lt-or-le}
 
 module _ (m : ℕ) (a b : List ℕ) (l : length a ≡ m) where
   pub first-part : (k : ℕ) → k < m → getD (a ++ b) k 0 ≡ getD a k 0

@@ -7,7 +7,7 @@ use lib.Dec.{lit<}
 use lib.ListN.{getD, replicate}
 use Rattle.aes_round.specs.Bytes.{tab}
 use Rattle.aes_round.specs.Marked.{Hold, _gives_}
-use Rattle.aes_round.proofs.Laws.Bytes.{is-tab}
+use Rattle.aes_round.proofs.Promises.{is-tab}
 use Rattle.echo.specs.declared.mode.Mode.the-variants.{DoublePipe, SinglePipe}
 use Rattle.echo.specs.Bits.{bitsOf, packed}
 use Rattle.echo.specs.Digest.{blockCount, counterAt}

@@ -12,11 +12,8 @@ use Rattle.aes_round.specs.Bytes.{Bytes, tab}
 use Rattle.aes_round.specs.ByTables.{mixNumbers}
 use Rattle.aes_round.specs.Mixing.{forward, mixColumn}
 use Rattle.aes_round.specs.Numbers.{byteOf, bytesOf, number, numbers}
-use Rattle.aes_round.proofs.Laws.Array.{entry-is, getD-column, length-column}
-use Rattle.aes_round.proofs.Laws.Bytes.{is-tab}
-use Rattle.aes_round.proofs.Laws.Every.{agree}
-use Rattle.aes_round.proofs.Laws.Numbers.{are-numbers, bytes-of-numbers, getD-numbers, getD-bytes-of, getD-mix-numbers, number-ext}
-use Rattle.aes_round.proofs.Laws.Rounds.{entry-mix}
+use Rattle.aes_round.proofs.Promises.{agree, are-numbers, byte-of-numbers, bytes-of-numbers, entry-is, entry-mix, getD-column, getD-mix-numbers}
+use Rattle.aes_round.proofs.Promises.{getD-numbers, is-tab, length-column, number-ext}
 use Rattle.echo.specs.Square.{bigMixColumns}
 use Rattle.echo.proofs.Laws.SquareNumbers.{four-by, four-stores, fourBy, numberOf, putBy}
 
@@ -85,11 +82,14 @@ module _ (s : List ℕ) where
         is-tab 4 _ _ (length-column 16 (bytesOf 64 s) c (4 * j + p))
         (λ k hk.
         getD-column 16 (bytesOf 64 s) c (4 * j + p) k hk ∙ entry-is 16 (bytesOf 64 s) (4 * c + k) (4 * j + p)
-        ∙ ap (λ (i : ℕ). getD (bytesOf 64 s) i 0) (place k) ∙ getD-bytes-of 64 s (16 * c + j + 4 * k) p (omega arith) hp
+        ∙ byte-of-numbers 64 s (16 * (4 * c + k) + (4 * j + p)) (omega arith) ∙ ap₂ (λ (q r : ℕ). byteOf (getD s q 0) r) (quotient k) (remainder k)
         ∙ ap (λ (x : ℕ). byteOf x p) (sym (four-by 4 s (16 * c + j) k hk)))
       where
-        place : (k : ℕ) → 16 * (4 * c + k) + (4 * j + p) ≡ 4 * (16 * c + j + 4 * k) + p
-        place k = omega arith
+        quotient : (k : ℕ) → (16 * (4 * c + k) + (4 * j + p)) / 4 ≡ 16 * c + j + 4 * k
+        quotient k = omega arith
+
+        remainder : (k : ℕ) → (16 * (4 * c + k) + (4 * j + p)) % 4 ≡ p
+        remainder k = omega arith
 
     mixed-number : (i : ℕ) → i < 4 → getD (mixNumbers (fourBy 4 s (16 * c + j))) i 0 ≡ numberOf mixed (16 * c + j + 4 * i)
     unfolding mixed bigMixColumns

@@ -6,11 +6,11 @@ use Prim.Native.Nat.{ℕ, zero, suc, _+_, _*_, _-_, _%_, _/_, _^_, _<_, _≤_}
 use native.Mathlib.Nat.{add-mul-div-left, add-mul-mod-self-left, div-div-eq-div-mul, div-eq-of-lt, div-one, lt-of-lt-of-le, mod-lt, mul-assoc}
 use native.Mathlib.Nat.{mul-comm, one-le-pow, pow-le-pow-right, pow-suc, zero-add}
 use native.Mathlib.Omega.{arith}
-use lib.Dec.{lit<}
+use lib.Dec.{T, eqb, lit<}
 use lib.Pow.{pow-add}
-use lib.ListN.{getD, getD-replicate, length-append, replicate}
+use lib.ListN.{getD, getD-replicate, length, length-append, replicate}
 use Rattle.aes_round.specs.Bytes.{Bytes, tab}
-use Rattle.aes_round.proofs.Laws.Bytes.{bytes-are, getD-tab, is-tab, length-tab, lt-or-le, tab-bytes}
+use Rattle.aes_round.proofs.Promises.{agree, bytes-are, every, getD-tab, is-tab, length-tab, lt-or-le, tab-bytes}
 use Rattle.echo.specs.Numbers.{littleEndian}
 use Rattle.echo.specs.Numbers.{halves}
 use Rattle.echo.specs.Square.{counterKey, wideKey}
@@ -19,6 +19,11 @@ use Rattle.echo.proofs.Laws.Joined.{first-part, joined-bytes, second-pa
 pub little-bytes : (n x : ℕ) → Bytes n (littleEndian n x)
 unfolding littleEndian
 little-bytes n x = tab-bytes n _ (λ i h. mod-lt _ (lit< tt))
+
+-- bytes that are written out, by one test
+pub little-are : (n x : ℕ) (l : List ℕ) → length l ≡ n → T (every (λ k. eqb (getD l k 0) (x / 256 ^ k % 256)) n) → littleEndian n x ≡ l
+unfolding littleEndian
+little-are n x l e t = sym (is-tab n l _ e (agree (λ k. getD l k 0) (λ k. x / 256 ^ k % 256) n t))
 
 -- the eight bytes of a number, written out in front of others
 abbrev eightBefore : ℕ → List ℕ → List ℕ

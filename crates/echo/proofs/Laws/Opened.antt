@@ -8,7 +8,7 @@ use native.Mathlib.Omega.{arith}
 use borrow.Author.Tests.{eq-eqb}
 use lib.ListN.{getD, length, replicate, take}
 use lib.Seq.{getD-append-add, length-take-le, take-append-add, take-length}
-use Rattle.aes_round.proofs.Laws.Bytes.{length-tab}
+use Rattle.aes_round.proofs.Promises.{length-tab}
 use Rattle.echo.specs.declared.mode.Mode.{Mode}
 use Rattle.echo.specs.declared.session.Session.{Session}
 use Rattle.echo.specs.Bits.{bitsOf, packed}
@@ -57,6 +57,19 @@ add-behind s m piece count =
 -- ---- the bits of a message, added to an opened session
 
 module _ (mode : Mode) (h : ℕ) (salt : List ℕ) where
+  -- what it holds before anything is added
+  pub opened-mode : opened mode h salt .mode ≡ mode
+  unfolding opened
+  opened-mode = refl
+
+  pub opened-bits : opened mode h salt .bits ≡ h
+  unfolding opened
+  opened-bits = refl
+
+  pub opened-taken : opened mode h salt .taken ≡ 0
+  unfolding opened
+  opened-taken = refl
+
   -- the state from the initial chaining variable, behind no block
   unused : List ℕ
   unused = replicate (128 - chainingSize mode h) 0
@@ -69,7 +82,7 @@ module _ (mode : Mode) (h : ℕ) (salt : List ℕ) where
   v-long = length-tab (chainingSize mode h) _
 
   opened-is : opened mode h salt ≡ stateFrom mode h salt v unused 0 []
-  unfolding v unused stateFrom chained iterate
+  unfolding opened v unused stateFrom chained iterate
   opened-is = rw (zero-div (blockSize mode h), zero-mod (blockSize mode h), mul-zero (blockSize mode h))
 
   -- so many bits of m
@@ -130,18 +143,18 @@ module _ (mode : Mode) (h : ℕ) (salt : List ℕ) where
         long = length-take-le count (bitsOf m) (omega (arith, length-bits m, S .size))
 
   -- all of its bytes
-  pub opened-taken : (m : List ℕ) → addBytes (opened mode h salt) m .taken ≡ 8 * length m
-  opened-taken m = add-counts (opened mode h salt) m ∙ zero-add (8 * length m)
+  pub added-taken : (m : List ℕ) → addBytes (opened mode h salt) m .taken ≡ 8 * length m
+  added-taken m = omega (arith, add-counts (opened mode h salt) m, opened-taken)
 
-  pub opened-bits : (m : List ℕ) → addBytes (opened mode h salt) m .bits ≡ h
-  opened-bits m = add-keeps (opened mode h salt) m .0
+  pub added-bits : (m : List ℕ) → addBytes (opened mode h salt) m .bits ≡ h
+  added-bits m = add-keeps (opened mode h salt) m .0 ∙ opened-bits
 
-  pub opened-mode : (m : List ℕ) → addBytes (opened mode h salt) m .mode ≡ mode
-  opened-mode m = add-keeps (opened mode h salt) m .2
-
-  pub opened-is-session : (m : List ℕ) → admitted h ≡ true → length m ≤ limit → isSession (addBytes (opened mode h salt) m) ≡ true
-  opened-is-session m a l =
+  pub added-is-session : (m : List ℕ) → admitted h ≡ true → length m ≤ limit → isSession (addBytes (opened mode h salt) m) ≡ true
+  added-is-session m a l =
       ap isSession (sym (add-whole (opened mode h salt) m)) ∙ bits-is-session m (8 * length m) (whole-sized m) a (omega arith)
+
+  pub opened-is-session : admitted h ≡ true → isSession (opened mode h salt) ≡ true
+  opened-is-session a = ap isSession (sym (add-nothing (opened mode h salt))) ∙ added-is-session [] a (omega arith)
 
   pub opened-digest : (m : List ℕ) → sessionDigest (addBytes (opened mode h salt) m) ≡ digestOf mode h salt m
   unfolding digestOf

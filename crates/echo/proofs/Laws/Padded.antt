@@ -8,7 +8,7 @@ use native.Mathlib.Omega.{arith}
 use lib.Dec.{lit<}
 use lib.ListN.{length, length-append, length-replicate, replicate, replicate-append-replicate, take}
 use lib.Seq.{length-take-le}
-use Rattle.aes_round.proofs.Laws.Bytes.{length-tab, lt-or-le}
+use Rattle.aes_round.proofs.Promises.{length-tab, lt-or-le}
 use Rattle.echo.specs.Bits.{bitsOf, byteBits, packed}
 use Rattle.echo.specs.Digest.{blockCount}
 use Rattle.echo.specs.Numbers.{littleEndian}

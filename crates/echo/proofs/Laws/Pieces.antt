@@ -1,5 +1,4 @@
--- A session as a plain list of the bits added: what opening, adding and reading answer on it, for whoever knows this crate by its
--- promises alone. Assumes nothing.
+-- A session as a plain list of the bits added: what opening, adding and reading answer on it. Assumes nothing.
 use mathlib.Core.Path.{_≡_, refl, sym, ap, _∙_}
 use mathlib.Core.Bool.{Bool, not, true, _&&_}
 use mathlib.Core.List.{List, [], _∷_, _++_}
@@ -17,12 +16,12 @@ use Rattle.echo.specs.Digest.{bitDigestOf, digestOf}
 use Rattle.echo.specs.Pieces.{joined}
 use Rattle.echo.specs.Refusals.{_when_, firstOf, noSalt}
 use Rattle.echo.specs.Session.{addAnswer, addBits, addBitsAnswer, addBytes, admitted, bitLimit, blank, isSession, limit, openAnswer}
-use Rattle.echo.specs.Session.{openRefusal, opened, readAnswer, readLeaves}
+use Rattle.echo.specs.Session.{openRefusal, opened, readAnswer, readLeaves, sessionDigest}
 use Rattle.echo.proofs.Laws.Bits.{Sized, whole-sized, whole-taken}
 use Rattle.echo.proofs.Laws.Continued.{session-digest-long}
-use Rattle.echo.proofs.Laws.Opened.{add-behind, add-whole, bits-digest, bits-is-session, bits-length, opened-bits, opened-digest, opened-is-session}
-use Rattle.echo.proofs.Laws.Opened.{opened-taken}
-use Rattle.echo.proofs.Laws.Sessions.{Addable, add-4, added, admitted-most, left-0, not-added, nothing-refused, open-0, read-0, session-fits}
+use Rattle.echo.proofs.Laws.Opened.{add-behind, add-whole, added-bits, added-is-session, added-taken, bits-digest, bits-is-session, bits-length}
+use Rattle.echo.proofs.Laws.Opened.{opened-digest}
+use Rattle.echo.proofs.Laws.Sessions.{Addable, add-4, added, left-0, left-5, most-bits, not-added, nothing-refused, open-0, read-0, read-5, session-fits}
 use Rattle.echo.proofs.Laws.Words.{sixteen-are}
 
 pub admitted-256 : admitted 256 ≡ true
@@ -77,10 +76,23 @@ module _ (s : Session) (piece : List ℕ) (is : isSession s ≡ true) where
       let few = session-fits s is .taken-fits in
       sym (not-added s piece (8 * length piece) 4 (add-4 s piece (8 * length piece) true (sym is) refl (omega (arith, few))) (λ z. omega arith))
 
+-- ---- any session, read into any room
+
+module _ (s : Session) (room : List ℕ) (is : isSession s ≡ true) where
+  pub reads-room : s .bits / 8 ≤ length room
+      → (_≡_ {A = Answer} (readAnswer s (length room)) (record { refusal = 0; session = s }))
+      × (readLeaves s room ≡ sessionDigest s ++ drop (s .bits / 8) room)
+  reads-room l = (sym (read-0 s room true (sym is) refl l), sym (left-0 s room true (sym is) refl l _ refl))
+
+  pub refuses-room : length room < s .bits / 8
+      → (_≡_ {A = Answer} (readAnswer s (length room)) (record { refusal = 5; session = s })) × (readLeaves s room ≡ room)
+  refuses-room l = (sym (read-5 s room true (sym is) refl l), sym (left-5 s room true (sym is) refl l))
+
 -- ---- the session that an opening hands out
 
 module _ (mode : Mode) (h : ℕ) (salt : List ℕ) (a : admitted h ≡ true) where
   pub opens : length salt ≡ 16 → _≡_ {A = Answer} (openAnswer mode h salt) (record { refusal = 0; session = opened mode h salt })
+  unfolding opened
   opens l = sym (open-0 mode h salt true (sym a) refl l salt _ (sym (sixteen-are salt l)) refl)
 
   -- so many bits behind whole bytes
@@ -89,11 +101,11 @@ module _ (mode : Mode) (h : ℕ) (salt : List ℕ) (a : admitted h ≡ true) whe
       (record { refusal = 0; session = addBits (opened mode h salt) (m ++ piece) (8 * length m + count) })
   takes-bits m piece count S n =
       let s = addBytes (opened mode h salt) m in
-      let taken = opened-taken mode h salt m in
+      let taken = added-taken mode h salt m in
       let whole : s .taken % 8 ≡ 0 = omega (arith, taken) in
       let able : Addable s piece count =
       record {
-        is = opened-is-session mode h salt m a (omega arith);
+        is = added-is-session mode h salt m a (omega arith);
         fits = omega (arith, taken);
         sized = S;
         ends = ap (λ (t : Bool). not t && not (eqb count 0)) (eq-eqb (s .taken % 8) 0 whole);
@@ -138,6 +150,6 @@ module _ (mode : Mode) (h : ℕ) (salt : List ℕ) (a : admitted h ≡ true) whe
 
   pub digest-long : (m : List ℕ) → length (digestOf mode h salt m) ≡ h / 8
   digest-long m =
-      let bits = opened-bits mode h salt m in
-      let most = admitted-most mode h salt true (sym a) refl in
+      let bits = added-bits mode h salt m in
+      let most = most-bits h a in
       sym (ap length (opened-digest mode h salt m)) ∙ session-digest-long (addBytes (opened mode h salt) m) (rw bits most) ∙ ap (λ (n : ℕ). n / 8) bits

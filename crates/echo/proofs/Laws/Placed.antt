@@ -8,8 +8,7 @@ use native.Mathlib.Omega.{arith}
 use borrow.Author.Count.{below-more}
 use lib.ListN.{drop, getD, length, length-append, length-drop, length-replicate, length-set, replicate, set, take}
 use lib.Seq.{getD-drop, getD-set-other, getD-set-same, getD-take, length-take-le}
-use Rattle.aes_round.proofs.Laws.Bytes.{lt-or-le, same-list}
-use Rattle.aes_round.proofs.Laws.Fill.{Filled}
+use Rattle.aes_round.proofs.Promises.{Filled, lt-or-le, same-list}
 use Rattle.echo.specs.Placed.{Placed}
 use Rattle.echo.proofs.Laws.Joined.{first-part, second-part}
 

@@ -9,7 +9,7 @@ use borrow.Author.Tests.{eq-eqb, eqb-true, le-ltb, lt-ltb, ltb-false, ne-eqb, no
 use lib.Dec.{eqb, ltb}
 use lib.ListN.{drop, getD, length}
 use Rattle.aes_round.specs.Bytes.{tab}
-use Rattle.aes_round.proofs.Laws.Bytes.{lt-or-le}
+use Rattle.aes_round.proofs.Promises.{lt-or-le}
 use Rattle.echo.specs.Bits.{bitsOf}
 use Rattle.echo.specs.Compression.{compress}
 use Rattle.echo.specs.Refusals.{Refusal, _when_, counterTooHigh, firstOf, noSalt, unless}
@@ -19,7 +19,6 @@ use Rattle.echo.specs.Session.{admitted, allZero, bitLimit, digestBitsRe
 use Rattle.echo.specs.Session.{setBelow}
 use Rattle.echo.specs.Square.{wideKeysFrom}
 use Rattle.echo.specs.declared.mode.Mode.{Mode}
-use Rattle.echo.specs.declared.session.Answer.{Answer}
 use Rattle.echo.specs.declared.session.Session.{Session}
 use Rattle.echo.proofs.Laws.Bits.{Sized, whole-sized}
 use Rattle.echo.proofs.Laws.Families.{Sizes, sizes-fit}
@@ -282,7 +281,13 @@ whole-refusal bits salt message room =
     by zero = simp (eq-eqb (length message) ((8 * length message + 7) / 8) (S .size), S .clear)
     by (suc r) = refl
 
--- ---- the refusals in order, for whoever knows this crate by its promises alone
+-- ---- the refusals in order
+
+pub digest-number : (bits salt message room : ℕ)
+    → digestRefusal bits salt message room
+    ≡ firstOf ((1 when not (admitted bits)) ∷ (2 when noSalt salt) ∷ (4 when ltb limit message) ∷ (5 when ltb room (bits / 8)) ∷ [])
+unfolding digestRefusal
+digest-number bits salt message room = refl
 
 pub digest-bits-number : (bits salt : ℕ) (message : List ℕ) (count room : ℕ)
     → digestBitsRefusal bits salt message count room
@@ -351,11 +356,11 @@ pub compress-within : (mode : Mode) (chaining block counter salt : ℕ) → comp
 compress-within mode chaining block counter salt z = within counter _ (sym (compress-bounded mode chaining block counter salt) ∙ z)
 
 -- a digest that was read fits its room
-pub read-fits : (s : Session) (room : ℕ) {r : Answer} → r ≡ readAnswer s room → r .refusal ≡ 0 → s .bits / 8 ≤ room
+pub read-fits : (s : Session) (room : ℕ) → readAnswer s room .refusal ≡ 0 → s .bits / 8 ≤ room
 unfolding readAnswer readRefusal
-read-fits s room e z =
+read-fits s room z =
     let small = ltb room (s .bits / 8) in
-    let a = none-first 3 (not (isSession s)) ((5 when small) ∷ []) (λ z. omega arith) (sym (ap (λ (r : Answer). r .refusal) e) ∙ z) in
+    let a = none-first 3 (not (isSession s)) ((5 when small) ∷ []) (λ z. omega arith) z in
     ltb-false room (s .bits / 8) (none-first 5 small [] (λ z. omega arith) (a .1) .0)
 
 pub done : {A : Type 0} (n : ℕ) (a b : A) → n ≡ 0 → unless n a b ≡ a

@@ -8,10 +8,7 @@ use borrow.Author.Count.{below-more, below-none}
 use lib.ListN.{getD, length, set}
 use Rattle.aes_round.specs.Array.{entry}
 use Rattle.aes_round.specs.Bytes.{tab}
-use Rattle.aes_round.proofs.Laws.Array.{entry-is, is-array}
-use Rattle.aes_round.proofs.Laws.Bytes.{is-tab, length-tab, lt-or-le, tab-ext}
-use Rattle.aes_round.proofs.Laws.Every.{agree}
-use Rattle.aes_round.proofs.Laws.Rounds.{length-shift, length-shift-back}
+use Rattle.aes_round.proofs.Promises.{agree, entry-is, is-array, is-tab, length-shift, length-shift-back, length-tab, lt-or-le, tab-ext}
 use Rattle.echo.specs.Placed.{Placed}
 use Rattle.echo.specs.Square.{bigShiftRows, bigShiftRowsBack, word}
 use Rattle.echo.proofs.Laws.Placed.{place-more}

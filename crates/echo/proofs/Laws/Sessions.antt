@@ -18,7 +18,7 @@ use Rattle.echo.specs.Families.{blockSize, chainingSize}
 use Rattle.echo.specs.Placed.{Placed}
 use Rattle.echo.specs.Refusals.{_when_, unless}
 use Rattle.echo.specs.Session.{addAnswer, addBits, addBitsAnswer, addBitsRefusal, admitted, allZero, bitLimit, blank, finalChaining, isSession, limit}
-use Rattle.echo.specs.Session.{made, openAnswer, openRefusal, readAnswer, readLeaves, readRefusal, sessionDigest}
+use Rattle.echo.specs.Session.{made, openAnswer, openRefusal, opened, readAnswer, readLeaves, readRefusal, sessionDigest}
 use Rattle.echo.proofs.Laws.Bits.{Sized}
 use Rattle.echo.proofs.Laws.Families.{digest-in-chaining, sizes}
 use Rattle.echo.proofs.Laws.Placed.{placed-front}
@@ -53,7 +53,7 @@ module _ (s : Session) (a : Bool) (e : a ≡ admitted (s .bits)) where
           rw (← e, not-false a holds, le-leb (s .taken) bitLimit n, ← rest-is, not-false w clear)
           (q ∙ ap (λ (x : ℕ). allZero (drop x (s .chaining))) p)
 
-most-bits : (h : ℕ) → admitted h ≡ true → h ≤ 512
+pub most-bits : (h : ℕ) → admitted h ≡ true → h ≤ 512
 unfolding admitted
 most-bits h e = leb-true h 512 (both (leb h 512) _ (both (leb 128 h) _ e .1) .0)
 
@@ -70,6 +70,9 @@ session-fits s e =
     let q = both (leb (s .taken) bitLimit) _ (p .1) in
     let r = both (allZero (drop (s .taken % (8 * blockSize (s .mode) (s .bits))) (bitsOf (s .waiting)))) _ (q .1) in
     record { admits = p .0; taken-fits = leb-true (s .taken) bitLimit (q .0); waiting-zero = r .0; chaining-zero = r .1 }
+
+pub session-admits : (s : Session) → isSession s ≡ true → admitted (s .bits) ≡ true
+session-admits s e = session-fits s e .admits
 
 -- what code that found a session by the test a knows of it
 module _ (s : Session) (a : Bool) (e : a ≡ isSession s) (holds : not a ≡ false) where
@@ -238,7 +241,7 @@ module _ (mode : Mode) (h : ℕ) (salt : List ℕ) (a : Bool) (e : a ≡ admitte
     pub open-0 : length salt ≡ 16 → (own v : List ℕ) → own ≡ tab 16 (λ k. getD salt (0 + k) 0)
         → v ≡ initial (chainingSize mode h) h ++ replicate (128 - chainingSize mode h) 0
         → _≡_ {A = Answer} (record { refusal = 0; session = made mode h own v 0 (replicate 224 0) }) (openAnswer mode h salt)
-    unfolding openAnswer openRefusal
+    unfolding openAnswer openRefusal opened
     open-0 l own v o c = rw (← e, not-false a holds, eq-eqb (length salt) 16 l, o ∙ sixteen-are salt l, c)
 
 -- ---- reading

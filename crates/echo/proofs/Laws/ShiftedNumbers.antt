@@ -9,8 +9,7 @@ use lib.Dec.{lit<}
 use lib.ListN.{getD, length}
 use Rattle.aes_round.specs.ByTables.{mixNumbers}
 use Rattle.aes_round.specs.Numbers.{bytesOf, numbers}
-use Rattle.aes_round.proofs.Laws.Numbers.{bytes-of-bytes, bytes-of-numbers, getD-numbers, numbers-of-bytes}
-use Rattle.aes_round.proofs.Laws.Rounds.{shift-bytes}
+use Rattle.aes_round.proofs.Promises.{bytes-of-bytes, bytes-of-numbers, getD-numbers, numbers-of-bytes, shift-bytes}
 use Rattle.echo.specs.Square.{bigMixColumns, bigShiftRows}
 use Rattle.echo.proofs.Laws.MixedNumbers.{Stored, all-stored, next-stored}
 use Rattle.echo.proofs.Laws.SquareNumbers.{fourBy, numberOf, numbers-of-word, putBy}

@@ -7,9 +7,8 @@ use lib.Dec.{lit<}
 use lib.ListN.{drop, drop-of-length-le, getD, length, length-append, length-drop, take, take-append-drop}
 use lib.Seq.{drop-drop, getD-drop, getD-take, length-take-le}
 use Rattle.aes_round.specs.Bytes.{xor, xorBytes}
-use Rattle.aes_round.proofs.Laws.Bytes.{getD-tab, length-tab, same-list, tab-ext}
-use Rattle.aes_round.proofs.Laws.Rounds.{length-mix-columns}
-use Rattle.aes_round.proofs.Laws.Xor.{getD-xor, length-xor, xor-assoc, xor-swap, xor-tab}
+use Rattle.aes_round.proofs.Promises.{getD-tab, getD-xor, length-mix-columns, length-tab, length-xor, same-list, tab-ext, xor-assoc, xor-swap}
+use Rattle.aes_round.proofs.Promises.{xor-tab}
 use Rattle.echo.specs.Compression.{bigFinal, compress, fold}
 use Rattle.echo.specs.SinglePipe.{_⊕_, compress51, compress52, loading51, loading52, output51, output52, table}
 use Rattle.echo.specs.Square.{bigMixColumns, bigRound, rounds, word}

@@ -10,12 +10,10 @@ use Rattle.aes_round.specs.Array.{array, entry}
 use Rattle.aes_round.specs.Bytes.{Bytes}
 use Rattle.aes_round.specs.Mixing.{backward, forward}
 use Rattle.aes_round.specs.Rounds.{aesRound, aesRoundBack}
-use Rattle.aes_round.proofs.Laws.Array.{array-bytes, entry-array, entry-byte, is-array}
-use Rattle.aes_round.proofs.Laws.Bytes.{getD-tab, is-tab, tab-bytes}
-use Rattle.aes_round.proofs.Laws.Mixing.{backward-bytes, forward-bytes}
-use Rattle.aes_round.proofs.Laws.Rounds.{length-round, length-round-back, mix-columns-back-undone, mix-columns-bytes, mix-columns-undone}
-use Rattle.aes_round.proofs.Laws.Rounds.{round-back-bytes, round-back-undone, round-bytes, round-undone, shift-back-bytes, shift-back-undone}
-use Rattle.aes_round.proofs.Laws.Rounds.{shift-bytes, shift-undone}
+use Rattle.aes_round.proofs.Promises.{array-bytes, backward-bytes, entry-array, entry-byte, forward-bytes, getD-tab, is-array, is-tab, length-round}
+use Rattle.aes_round.proofs.Promises.{length-round-back, mix-columns-back-undone, mix-columns-bytes, mix-columns-undone, round-back-bytes}
+use Rattle.aes_round.proofs.Promises.{round-bytes, shift-back-bytes, shift-back-undone, shift-bytes, shift-undone, tab-bytes}
+use Rattle.aes_round.proofs.Theorems.{the-round-is-undone, the-round-undoes}
 use Rattle.echo.specs.Square.{bigMixColumns, bigMixColumnsBack, bigRound, bigRoundBack, bigShiftRows, bigShiftRowsBack, bigSubWords}
 use Rattle.echo.specs.Square.{bigSubWordsBack, rounds, roundsBack, word}
 
@@ -63,12 +61,13 @@ module _ (key : ℕ → List ℕ) (salt : List ℕ) (K : Keys key) (L : Bytes 16
 
   two-undone : (i : ℕ) (w : List ℕ) → Bytes 16 w → aesRoundBack (aesRoundBack (aesRound (aesRound w (key i)) salt) salt) (key i) ≡ w
   two-undone i w W =
-      ap (λ (x : List ℕ). aesRoundBack x (key i)) (round-undone (aesRound w (key i)) salt (round-bytes w (key i) W (K i))) ∙ round-undone w (key i) W
+      ap (λ (x : List ℕ). aesRoundBack x (key i)) (the-round-is-undone (aesRound w (key i)) salt (round-bytes w (key i) W (K i)))
+      ∙ the-round-is-undone w (key i) W
 
   two-back-undone : (i : ℕ) (w : List ℕ) → Bytes 16 w → aesRound (aesRound (aesRoundBack (aesRoundBack w salt) (key i)) (key i)) salt ≡ w
   two-back-undone i w W =
-      ap (λ (x : List ℕ). aesRound x salt) (round-back-undone (aesRoundBack w salt) (key i) (round-back-bytes w salt W L) (K i))
-      ∙ round-back-undone w salt W L
+      ap (λ (x : List ℕ). aesRound x salt) (the-round-undoes (aesRoundBack w salt) (key i) (round-back-bytes w salt W L) (K i))
+      ∙ the-round-undoes w salt W L
 
   pub sub-words-bytes : (s : List ℕ) → Bytes 256 s → Bytes 256 (bigSubWords key salt s)
   unfolding bigSubWords

@@ -8,10 +8,8 @@ use lib.Dec.{lit<}
 use lib.ListN.{getD, length, set}
 use Rattle.aes_round.specs.Bytes.{tab}
 use Rattle.aes_round.specs.Numbers.{byteOf, bytesOf, number, numbers}
-use Rattle.aes_round.proofs.Laws.Bytes.{getD-tab, length-tab, same-list}
-use Rattle.aes_round.proofs.Laws.Fill.{Filled}
-use Rattle.aes_round.proofs.Laws.Numbers.{are-bytes-of, are-numbers, byte-0, byte-is, byte-of-numbers, bytes-of-bytes, four-numbers, getD-numbers}
-use Rattle.aes_round.proofs.Laws.Numbers.{number-ext, number-of}
+use Rattle.aes_round.proofs.Promises.{Filled, are-bytes-of, are-numbers, byte-0, byte-is, byte-of-numbers, bytes-of-bytes, four-numbers, getD-numbers}
+use Rattle.aes_round.proofs.Promises.{getD-tab, length-tab, number-ext, number-of, same-list}
 use Rattle.echo.specs.Placed.{Placed}
 use Rattle.echo.specs.Square.{word}
 use Rattle.echo.proofs.Laws.Placed.{fill-part, place-more, place-none}

@@ -8,7 +8,7 @@ use native.Mathlib.Omega.{arith}
 use borrow.Author.Tests.{lt-ltb}
 use lib.ListN.{drop, drop-of-length-le, length, length-append, length-drop, replicate, set, take}
 use lib.Seq.{drop-append-le, drop-drop, set-at, take-append-le}
-use Rattle.aes_round.proofs.Laws.Xor.{length-xor}
+use Rattle.aes_round.proofs.Promises.{length-xor}
 use Rattle.echo.specs.Compression.{bigFinal, compress}
 use Rattle.echo.specs.Digest.{block, blockCount, counterAt, iterate}
 use Rattle.echo.specs.Square.{keysFrom}

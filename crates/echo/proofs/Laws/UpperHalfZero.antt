@@ -8,7 +8,7 @@ use lib.Dec.{lit<}
 use lib.ListN.{getD, length}
 use Rattle.aes_round.specs.Bytes.{tab}
 use Rattle.aes_round.specs.Rounds.{aesRound, aesRoundBack}
-use Rattle.aes_round.proofs.Laws.Array.{array-ext}
+use Rattle.aes_round.proofs.Promises.{array-ext}
 use Rattle.echo.specs.declared.mode.Mode.{Mode}
 use Rattle.echo.specs.Compression.{bigFinal, compress}
 use Rattle.echo.specs.Families.{roundCount}

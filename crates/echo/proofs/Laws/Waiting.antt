@@ -10,7 +10,7 @@ use borrow.Author.Tests.{eq-eqb, ne-eqb}
 use lib.ListN.{drop, drop-of-length-le, getD, getD-replicate, length, length-replicate, replicate, set, take}
 use lib.Seq.{drop-cons, drop-length, getD-take, length-take-le}
 use Rattle.aes_round.specs.Bytes.{tab}
-use Rattle.aes_round.proofs.Laws.Bytes.{is-tab}
+use Rattle.aes_round.proofs.Promises.{is-tab}
 use Rattle.echo.specs.declared.mode.Mode.{Mode}
 use Rattle.echo.specs.declared.session.Session.{Session}
 use Rattle.echo.specs.Compression.{compress}

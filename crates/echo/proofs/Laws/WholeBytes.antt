@@ -9,7 +9,7 @@ use native.Mathlib.Omega.{arith}
 use borrow.Author.Tests.{le-ltb, lt-ltb}
 use lib.Dec.{ltb}
 use lib.ListN.{length, replicate, take}
-use Rattle.aes_round.proofs.Laws.Bytes.{lt-or-le}
+use Rattle.aes_round.proofs.Promises.{lt-or-le}
 use Rattle.echo.specs.declared.mode.Mode.{Mode}
 use Rattle.echo.specs.Digest.{bitDigestOf, block, blockCount, counterAt, digest, digestOf, initial, iterate}
 use Rattle.echo.specs.Families.{blockSize, chainingSize, either, roundCount}

@@ -8,10 +8,7 @@ use lib.ListN.{getD, length}
 use Rattle.aes_round.specs.Array.{array}
 use Rattle.aes_round.specs.Bytes.{tab}
 use Rattle.aes_round.specs.Rounds.{aesRound, aesRoundBack}
-use Rattle.aes_round.proofs.Laws.Array.{entry-is, tab-array}
-use Rattle.aes_round.proofs.Laws.Bytes.{is-tab, tab-ext}
-use Rattle.aes_round.proofs.Laws.Fill.{Filled, fill-all, fill-none}
-use Rattle.aes_round.proofs.Laws.Rounds.{entry-shift, entry-shift-back}
+use Rattle.aes_round.proofs.Promises.{Filled, entry-is, entry-shift, entry-shift-back, fill-all, fill-none, is-tab, tab-array, tab-ext}
 use Rattle.echo.specs.Placed.{Placed}
 use Rattle.echo.specs.Square.{bigShiftRows, bigShiftRowsBack, bigSubWords, bigSubWordsBack, word}
 use Rattle.echo.proofs.Laws.Placed.{fill-part}

@@ -11,8 +11,7 @@ use lib.ListN.{drop, getD, length, take}
 use lib.Seq.{drop-cons, drop-length, take-length, take-suc}
 use Rattle.lines.specs.Lines.{Put, spread}
 use Rattle.lines.specs.Names.{escapeOf}
-use Rattle.lines.proofs.Laws.Lines.{put-join, put-nothing, spread-cons, spread-nil}
-use Rattle.lines.proofs.Laws.Names.{escape-cases}
+use Rattle.lines.proofs.Promises.{escape-cases, put-join, put-nothing, spread-cons, spread-nil}
 use Rattle.echosum.specs.Bytes.{holdsOf}
 use Rattle.echosum.specs.Names.{areEscapes, areEscapesFrom, faultAt, isName, meantBy, opensAt, unescaped, unescapedFrom, undoneAt}
 

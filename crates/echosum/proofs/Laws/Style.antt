@@ -9,8 +9,7 @@ use Rattle.lines.specs.Decimal.{decimalOf}
 use Rattle.lines.specs.Hexadecimal.{digitsOf}
 use Rattle.lines.specs.Lines.{Put, spread}
 use Rattle.lines.specs.Names.{escapeOf, markOf}
-use Rattle.lines.proofs.Laws.Decimal.{few-digits}
-use Rattle.lines.proofs.Laws.Lines.{put-join, put-stands, spread-cons, spread-nil}
+use Rattle.lines.proofs.Promises.{few-digits, put-join, put-stands, spread-cons, spread-nil}
 use Rattle.echosum.specs.declared.style.Style.{Style}
 use Rattle.echosum.specs.Bytes.{part}
 use Rattle.echosum.specs.Listed.{begins, closes, double, opens, single}

@@ -7,9 +7,9 @@ use Rattle.steering.specs.Reading.{readAt}
 use Rattle.steering.specs.declared.reading.Reading.{Reading}
 use Rattle.steering.specs.declared.reading.Reading.the-variants.{Found}
 use Rattle.steering.specs.declared.records.Record.{Record}
-use Rattle.steering.proofs.Laws.Reading.{found}
+use Rattle.steering.proofs.Promises.{found-within}
 
 module _ (table : List ℕ) (place : ℕ) (x : Reading) (record-read : Record) (next : ℕ)
     (is : x ≡ Found record-read next) (read : x ≡ readAt table place) where
   pub not-first : 1 ≤ next
-  not-first = let here = found table place record-read next (sym is ∙ read) in omega (arith, here .next-is)
+  not-first = omega (arith, found-within table place record-read next (sym is ∙ read) .0)

@@ -10,9 +10,7 @@ use lib.Dec.{eqb, ltb}
 use lib.ListN.{drop, length}
 use Rattle.echo.specs.Refusals.{Refusal, _when_, firstOf, noSalt, unless}
 use Rattle.echo.specs.Session.{admitted, limit}
-use Rattle.echo.proofs.Laws.Families.{double-block}
-use Rattle.echo.proofs.Laws.Opened.{add-nothing}
-use Rattle.echo.proofs.Laws.Refusals.{refused, too-many}
+use Rattle.echo.proofs.Promises.{add-nothing, double-block, kept, too-many}
 use Rattle.hmac.specs.declared.at_once.Verdict.{Verdict}
 use Rattle.hmac.specs.declared.tag_session.Checking.{Checking}
 use Rattle.hmac.specs.declared.tag_session.TagAnswer.{TagAnswer}
@@ -123,7 +121,7 @@ module _ (h : ℕ) (salt key message : List ℕ) where
 
       pub left-not-opened : (x .refusal ≡ 0 → ⊥) → room ≡ makeLeaves h salt key message room
       unfolding makeLeaves
-      left-not-opened n = refused (x .refusal) _ _ room (make-not-opened n) n
+      left-not-opened n = sym (kept _ _ room (λ z. n (make-not-opened n ∙ z)))
 
       module _ (z : x .refusal ≡ 0) (y : TagAnswer) (d : y ≡ addTagAnswer (x .session) message) where
         pub make-not-added : (y .refusal ≡ 0 → ⊥) → y .refusal ≡ makeRefusal h (length salt) (length key) (length message) (length room)
@@ -132,7 +130,7 @@ module _ (h : ℕ) (salt key message : List ℕ) where
 
         pub left-not-added : (y .refusal ≡ 0 → ⊥) → room ≡ makeLeaves h salt key message room
         unfolding makeLeaves
-        left-not-added n = refused (y .refusal) _ _ room (make-not-added n) n
+        left-not-added n = sym (kept _ _ room (λ z. n (make-not-added n ∙ z)))
 
         module _ (w : y .refusal ≡ 0) where
           read-number : readTagRefusal (y .session) (length room) ≡ makeRefusal h (length salt) (length key) (length message) (length room)
@@ -159,13 +157,13 @@ module _ (h : ℕ) (salt key message : List ℕ) where
       pub check-not-opened : (x .refusal ≡ 0 → ⊥) → _≡_ {A = Verdict} (record { refusal = x .refusal; yes = false }) (checkAnswer h salt key message tag)
       unfolding checkAnswer checkRefusal
       check-not-opened n =
-          ap₂ (λ (k : ℕ) (b : Bool). record { refusal = k; yes = b }) (not-opened n []) (refused (x .refusal) _ _ false (not-opened n []) n)
+          ap₂ (λ (k : ℕ) (b : Bool). record { refusal = k; yes = b }) (not-opened n []) (sym (kept _ _ false (λ z. n (not-opened n [] ∙ z))))
 
       module _ (z : x .refusal ≡ 0) (y : TagAnswer) (d : y ≡ addTagAnswer (x .session) message) where
         pub check-not-added : (y .refusal ≡ 0 → ⊥) → _≡_ {A = Verdict} (record { refusal = y .refusal; yes = false }) (checkAnswer h salt key message tag)
         unfolding checkAnswer checkRefusal
         check-not-added n =
-            ap₂ (λ (k : ℕ) (b : Bool). record { refusal = k; yes = b }) (not-added z y d n []) (refused (y .refusal) _ _ false (not-added z y d n []) n)
+            ap₂ (λ (k : ℕ) (b : Bool). record { refusal = k; yes = b }) (not-added z y d n []) (sym (kept _ _ false (λ w. n (not-added z y d n [] ∙ w))))
 
         pub check-checks : y .refusal ≡ 0 → (r : Checking) → r ≡ checkTagAnswer (y .session) tag
             → _≡_ {A = Verdict} (record { refusal = r .refusal; yes = r .yes }) (checkAnswer h salt key message tag)

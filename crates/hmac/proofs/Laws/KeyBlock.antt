@@ -2,29 +2,23 @@
 use mathlib.Core.Path.{_≡_, refl, sym, ap, _∙_}
 use mathlib.Core.Bool.{Bool, true, false}
 use mathlib.Core.List.{List, _++_, append-assoc}
-use Prim.Native.Nat.{ℕ, _+_, _-_, _%_, _<_, _≤_}
+use Prim.Native.Nat.{ℕ, _+_, _-_, _/_, _%_, _<_, _≤_}
 use native.Mathlib.Nat.{not-suc-le-zero, zero-add}
 use native.Mathlib.Omega.{arith}
-use borrow.Author.Tests.{le-ltb, lt-ltb, ltb-false, ltb-true}
+use borrow.Author.Tests.{eq-eqb, le-ltb, lt-ltb, ltb-false}
 use lib.Bits.{bitXor}
 use lib.Dec.{ltb}
 use lib.ListN.{drop, getD, getD-replicate, length, length-append, length-replicate, replicate, replicate-append-replicate, set, take}
 use lib.Seq.{drop-at, getD-take, length-take-le, take-at}
 use Rattle.aes_round.specs.Bytes.{xor, xorBytes}
-use Rattle.aes_round.proofs.Laws.Bytes.{same-list}
-use Rattle.aes_round.proofs.Laws.Fill.{Filled, fill-more}
-use Rattle.aes_round.proofs.Laws.Xor.{code-xor, getD-xor, length-xor}
+use Rattle.aes_round.proofs.Promises.{Filled, code-xor, fill-more, getD-xor, length-xor, same-list}
 use Rattle.echo.specs.declared.mode.Mode.the-variants.{DoublePipe}
 use Rattle.echo.specs.declared.session.Answer.{Answer}
 use Rattle.echo.specs.declared.session.Session.{Session}
 use Rattle.echo.specs.Families.{either}
 use Rattle.echo.specs.Placed.{Placed}
 use Rattle.echo.specs.Session.{addAnswer, addBytes, admitted, digestLeaves, digestRefusal, isSession, limit}
-use Rattle.echo.proofs.Laws.Families.{double-block}
-use Rattle.echo.proofs.Laws.Pieces.{digest-long, takes-bytes}
-use Rattle.echo.proofs.Laws.Placed.{placed-front}
-use Rattle.echo.proofs.Laws.Refusals.{digest-4, digestible}
-use Rattle.echo.proofs.Laws.Sessions.{admitted-most}
+use Rattle.echo.proofs.Promises.{digest-long, digest-number, double-block, most-bits, placed-front, takes-bytes}
 use Rattle.echo.proofs.Theorems.{at-once-is-the-digest}
 use Rattle.hmac.specs.DoublePipe.{blockSize, digestOf}
 use Rattle.hmac.specs.Hmac.{keyBlock, withZeros}
@@ -65,34 +59,38 @@ fewer-zeros n m s l few =
 
 module _ (h : ℕ) (salt key : List ℕ) (a : admitted h ≡ true) (l : length salt ≡ 16) (b : ℕ) (size : b ≡ blockSize h) where
   most : h ≤ 512
-  most = admitted-most DoublePipe h salt true (sym a) refl
+  most = most-bits h a
 
   -- the key is digested
   module _ (r : ℕ) (e : r ≡ digestRefusal h (length salt) (length key) 192) where
     pub digested-number : r ≡ either (ltb limit (length key)) 4 0
     digested-number = by (ltb limit (length key)) refl
       where
-        by : (t : Bool) → ltb limit (length key) ≡ t → r ≡ either t 4 0
-        by true p = e ∙ sym (digest-4 h (length salt) (length key) 192 true (sym a) refl l (ltb-true limit (length key) p))
+        by : (t : Bool) → ltb limit (length key) ≡ t → r ≡ either (ltb limit (length key)) 4 0
+        by true p = rw (e, digest-number h (length salt) (length key) 192, a, eq-eqb (length salt) 16 l, p)
         by false p =
-            e
-            ∙ ap (digestRefusal h (length salt) (length key)) (sym (zeros-long 192))
-            ∙ at-once-is-the-digest DoublePipe h salt key (zeros 192) a l (ltb-false limit (length key) p) (omega (arith, most, zeros-long 192)) .0
+            rw (e, digest-number h (length salt) (length key) 192, a, eq-eqb (length salt) 16 l, p, le-ltb 192 (h / 8) (omega (arith, most)))
+
+    not-too-long : r ≡ 0 → length key ≤ limit
+    not-too-long none = by (ltb limit (length key)) refl
+      where
+        by : (t : Bool) → ltb limit (length key) ≡ t → length key ≤ limit
+        by true p = absurd (omega (arith, none, digested-number ∙ ap (λ (t : Bool). either {A = ℕ} t 4 0) p))
+        by false p = ltb-false limit (length key) p
 
     pub digested-block : b < length key → (u : List ℕ) → u ≡ digestLeaves DoublePipe h salt key (replicate 192 0) → r ≡ 0
         → take (blockSize h) u ≡ keyBlock (digestOf h salt) (blockSize h) key
     unfolding keyBlock zeros
     digested-block long u d none =
-        let D = digestible h (length salt) (length key) 192 (sym e ∙ none) in
         let S = double-block h in
         let n = digest-long DoublePipe h salt a key in
         rw (lt-ltb (blockSize h) (length key) (omega (arith, size)))
         (ap (take (blockSize h))
         (d
-        ∙ at-once-is-the-digest DoublePipe h salt key (zeros 192) a l (D .message-fits) (D .room-fits) .1
+        ∙ at-once-is-the-digest DoublePipe h salt key (zeros 192) a l (not-too-long none) (omega (arith, most, zeros-long 192)) .1
         ∙ ap (λ (k : ℕ). digestOf h salt key ++ drop k (zeros 192)) (sym n)
         ∙ in-front 192 (digestOf h salt key) (omega (arith, n, most)))
-        ∙ fewer-zeros (blockSize h) 192 (digestOf h salt key) (omega (arith, n, most)) (S .block-most))
+        ∙ fewer-zeros (blockSize h) 192 (digestOf h salt key) (omega (arith, n, most)) (S .1))
 
   -- the key is copied
   module _ (short : length key ≤ b) where
@@ -107,7 +105,7 @@ module _ (h : ℕ) (salt key : List ℕ) (a : admitted h ≡ true) (l : length s
         rw (le-ltb (blockSize h) (length key) (omega arith))
         (ap (take (blockSize h))
         (placed-front (zeros 192) key u (length key) refl (omega (arith, zeros-long 192)) P ∙ in-front 192 key (omega arith))
-        ∙ fewer-zeros (blockSize h) 192 key (omega arith) (S .block-most))
+        ∙ fewer-zeros (blockSize h) 192 key (omega arith) (S .1))
       where
         P : Placed (zeros 192) 0 key (length key) u
         P = record {

@@ -14,8 +14,7 @@ use Rattle.echo.specs.declared.session.Session.{Session}
 use Rattle.echo.specs.Families.{either}
 use Rattle.echo.specs.Refusals.{_when_, firstOf}
 use Rattle.echo.specs.Session.{addBytes, admitted, isSession, limit, openAnswer}
-use Rattle.echo.proofs.Laws.Opened.{add-nothing, opened-is-session}
-use Rattle.echo.proofs.Laws.Pieces.{no-digest-of-0-bits, opening-number, opens}
+use Rattle.echo.proofs.Promises.{no-digest-of-0-bits, opened-bits, opened-is-session, opened-taken, opening-number, opens}
 use Rattle.hmac.specs.declared.key_block.KeyBlock.{KeyBlock}
 use Rattle.hmac.specs.declared.tag_session.TagAnswer.{TagAnswer}
 use Rattle.hmac.specs.DoublePipe.{blockSize, digestOf, opened}
@@ -68,11 +67,10 @@ module _ (h : ℕ) (salt key : List ℕ) (x : Answer) (e : x ≡ openAnswer Doub
     fresh = ap (λ (y : Answer). y .session) (e ∙ opens DoublePipe h salt bits-pass salt-passes)
 
     pub fresh-is-session : isSession (x .session) ≡ true
-    fresh-is-session =
-        ap isSession (fresh ∙ sym (add-nothing (opened h salt))) ∙ opened-is-session DoublePipe h salt [] bits-pass (omega arith)
+    fresh-is-session = ap isSession fresh ∙ opened-is-session DoublePipe h salt bits-pass
 
     pub fresh-is-empty : x .session .taken ≡ 0
-    fresh-is-empty = ap (λ (s : Session). s .taken) fresh
+    fresh-is-empty = ap (λ (s : Session). s .taken) fresh ∙ opened-taken DoublePipe h salt
 
     module _ (k : KeyBlock) (r : k .refusal ≡ either (ltb limit (length key)) 4 0) where
       pub opened-long : (k .refusal ≡ 0 → ⊥) → (t : TagAnswer) → t ≡ refusedTag (k .refusal) → t ≡ openTagAnswer h salt key
@@ -96,6 +94,8 @@ module _ (h : ℕ) (salt key : List ℕ) (x : Answer) (e : x ≡ openAnswer Doub
           keyed pad s d =
               d
               ∙ ap (λ (f : Session). begunWith f (k .bytes) pad) fresh
+              ∙ ap (λ (n : ℕ). let b = blockSize n in addBytes (opened h salt) (xorBytes b (take b (k .bytes)) (replicate b pad)))
+              (opened-bits DoublePipe h salt)
               ∙ ap (λ (l : List ℕ). addBytes (opened h salt) (xorBytes (blockSize h) l (replicate (blockSize h) pad))) (K none)
 
           by : (l : Bool) → ltb limit (length key) ≡ l

@@ -1,6 +1,6 @@
 -- Two lists compared: by their elements, and by the bits in which their bytes differ, taken together. Assumes nothing.
 use mathlib.Core.Path.{_≡_, refl, sym, ap, ap₂, _∙_}
-use mathlib.Core.Bool.{Bool, true, false, true≢false}
+use mathlib.Core.Bool.{Bool, true, false, _&&_, true≢false}
 use mathlib.Core.Logic.{_↔_}
 use mathlib.Core.List.{List, [], _∷_}
 use Prim.Native.Nat.{ℕ, zero, suc, _+_, _<_, _≤_}
@@ -12,10 +12,14 @@ use lib.Bits.{and-le-l, and-le-r, bitOr, bitXor, or-add-and}
 use lib.Dec.{eqb}
 use lib.ListN.{getD, length}
 use lib.Seq.{ext-getD}
-use Rattle.aes_round.proofs.Laws.Xor.{code-xor, xor-self, xor-twice, xor-zero-l}
+use Rattle.aes_round.proofs.Promises.{code-xor, xor-self, xor-twice, xor-zero-l}
 use Rattle.aes_round.specs.Bytes.{xor}
-use Rattle.echo.proofs.Laws.Zeros.{both}
 use Rattle.hmac.specs.Same.{same}
+
+-- a test that came out true came through each of its parts
+pub both : (a b : Bool) → (a && b) ≡ true → (a ≡ true) × (b ≡ true)
+both true b e = (refl, e)
+both false b e = absurd (true≢false (sym e))
 
 -- ---- the same exactly where equal
 

@@ -13,12 +13,8 @@ use Rattle.echo.specs.declared.mode.Mode.the-variants.{DoublePipe, SinglePipe}
 use Rattle.echo.specs.declared.session.Answer.{Answer}
 use Rattle.echo.specs.declared.session.Session.{Session}
 use Rattle.echo.specs.Session.{addAnswer, bitLimit, isSession, readAnswer, readLeaves, sessionDigest}
-use Rattle.echo.proofs.Laws.Continued.{session-digest-long}
-use Rattle.echo.proofs.Laws.Families.{double-block}
-use Rattle.echo.proofs.Laws.Kept.{add-is-session, add-keeps}
-use Rattle.echo.proofs.Laws.Pieces.{refuses-bytes, takes-bytes}
-use Rattle.echo.proofs.Laws.Sessions.{bits-most, left-0, left-5, read-0, read-5}
-use Rattle.echo.proofs.Laws.Zeros.{both}
+use Rattle.echo.proofs.Promises.{add-is-session, add-keeps, double-block, most-bits, reads-room, refuses-bytes, refuses-room, session-admits}
+use Rattle.echo.proofs.Promises.{session-digest-long, takes-bytes}
 use Rattle.hmac.specs.declared.tag_session.Checking.{Checking}
 use Rattle.hmac.specs.declared.tag_session.TagAnswer.{TagAnswer}
 use Rattle.hmac.specs.declared.tag_session.TagSession.{TagSession}
@@ -26,7 +22,7 @@ use Rattle.hmac.specs.DoublePipe.{blockSize, isDoublePipe}
 use Rattle.hmac.specs.Same.{same}
 use Rattle.hmac.specs.TagSession.{addTagAnswer, addTagBytes, addTagRefusal, checkTagAnswer, checkTagRefusal, closedBy, countsFit}
 use Rattle.hmac.specs.TagSession.{isTagSession, readTagAnswer, readTagLeaves, readTagRefusal, sessionTag}
-use Rattle.hmac.proofs.Laws.Same.{same-equal, same-self}
+use Rattle.hmac.proofs.Laws.Same.{both, same-equal, same-self}
 
 -- ---- which records are tag sessions: the answers of is_session, by the tests i, o, m, d and s that the code made
 
@@ -166,9 +162,12 @@ module _ (t : TagSession) (piece : List ℕ) (a : Bool) (e : a ≡ isTagSession 
 
 -- ---- the outer session with the digest of the inner one
 
+bits-most : (s : Session) → isSession s ≡ true → s .bits ≤ 512
+bits-most s is = most-bits (s .bits) (session-admits s is)
+
 -- the digest of any session fits 64 bytes
 digest-within : (s : Session) → isSession s ≡ true → (d : List ℕ) → length d ≡ 64 → s .bits / 8 ≤ length d
-digest-within s is d l = omega (arith, bits-most s true (sym is) refl)
+digest-within s is d l = omega (arith, bits-most s is)
 
 digest-count : (s : Session) → isSession s ≡ true → (d : List ℕ) → length d ≡ 64 → s .bits / 8 ≡ length (take (s .bits / 8) d)
 digest-count s is d l = sym (length-take-le (s .bits / 8) d (digest-within s is d l))
@@ -176,8 +175,8 @@ digest-count s is d l = sym (length-take-le (s .bits / 8) d (digest-within s is 
 -- a digest that was read into 64 bytes
 digest-read : (s : Session) → isSession s ≡ true → take (s .bits / 8) (readLeaves s (replicate 64 0)) ≡ sessionDigest s
 digest-read s is =
-    let most = bits-most s true (sym is) refl in
-    ap (take (s .bits / 8)) (sym (left-0 s (replicate 64 0) true (sym is) refl (omega (arith, most)) _ refl))
+    let most = bits-most s is in
+    ap (take (s .bits / 8)) (reads-room s (replicate 64 0) is (omega (arith, most)) .1)
     ∙ take-at (sessionDigest s) _ (s .bits / 8) (session-digest-long s most)
 
 module _ (t : TagSession) (is : isTagSession t ≡ true) where
@@ -185,7 +184,7 @@ module _ (t : TagSession) (is : isTagSession t ≡ true) where
   fits = tag-fits t is
 
   most : t .inner .bits ≤ 512
-  most = bits-most (t .inner) true (sym (fits .inner-is)) refl
+  most = bits-most (t .inner) (fits .inner-is)
 
   pub inner-digest-within : (d : List ℕ) → length d ≡ 64 → t .inner .bits / 8 ≤ length d
   inner-digest-within = digest-within (t .inner) (fits .inner-is)
@@ -255,22 +254,19 @@ module _ (t : TagSession) (a : Bool) (e : a ≡ isTagSession t) (holds : not a �
         where
           by : (b : Bool) → ltb (length room) (t .outer .bits / 8) ≡ b
               → _≡_ {A = TagAnswer} (record { refusal = x .refusal; session = t }) (readTagAnswer t (length room))
-          by true p =
-              rw (is-tag, p, r, ← read-5 c room true (sym is) refl (omega (arith, size, ltb-true (length room) (t .outer .bits / 8) p)))
-          by false p =
-              rw (is-tag, p, r, ← read-0 c room true (sym is) refl (omega (arith, size, ltb-false (length room) (t .outer .bits / 8) p)))
+          by true p = rw (is-tag, p, r, refuses-room c room is (omega (arith, size, ltb-true (length room) (t .outer .bits / 8) p)) .0)
+          by false p = rw (is-tag, p, r, reads-room c room is (omega (arith, size, ltb-false (length room) (t .outer .bits / 8) p)) .0)
 
       pub left-closed : (u : List ℕ) → u ≡ readLeaves c room → u ≡ readTagLeaves t room
       unfolding readTagLeaves readTagRefusal sessionTag
       left-closed u l = by (ltb (length room) (t .outer .bits / 8)) refl
         where
           by : (b : Bool) → ltb (length room) (t .outer .bits / 8) ≡ b → u ≡ readTagLeaves t room
-          by true p =
-              rw (is-tag, p) (l ∙ sym (left-5 c room true (sym is) refl (omega (arith, size, ltb-true (length room) (t .outer .bits / 8) p))))
+          by true p = rw (is-tag, p) (l ∙ refuses-room c room is (omega (arith, size, ltb-true (length room) (t .outer .bits / 8) p)) .1)
           by false p =
               rw (is-tag, p)
               (l
-              ∙ sym (left-0 c room true (sym is) refl (omega (arith, size, ltb-false (length room) (t .outer .bits / 8) p)) _ refl)
+              ∙ reads-room c room is (omega (arith, size, ltb-false (length room) (t .outer .bits / 8) p)) .1
               ∙ ap₂ (λ (s : Session) (n : ℕ). sessionDigest s ++ drop n room) d size)
 
     pub own-tag-within : (own : List ℕ) → length own ≡ 64 → c .bits / 8 ≤ length own

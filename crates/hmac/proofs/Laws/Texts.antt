@@ -7,15 +7,13 @@ use native.Mathlib.Omega.{arith}
 use borrow.Author.Tests.{eq-eqb, le-ltb}
 use lib.ListN.{drop, length, length-append}
 use Rattle.aes_round.specs.Bytes.{xorBytes}
-use Rattle.aes_round.proofs.Laws.Xor.{length-xor}
+use Rattle.aes_round.proofs.Promises.{length-xor}
 use Rattle.echo.specs.declared.mode.Mode.the-variants.{DoublePipe}
 use Rattle.echo.specs.declared.session.Session.{Session}
 use Rattle.echo.specs.Refusals.{unless}
 use Rattle.echo.specs.Session.{addBytes, admitted, bitLimit, isSession, limit, sessionDigest}
-use Rattle.echo.proofs.Laws.Families.{double-block}
-use Rattle.echo.proofs.Laws.Kept.{add-keeps}
-use Rattle.echo.proofs.Laws.Opened.{add-pieces, opened-bits, opened-digest, opened-is-session, opened-mode, opened-taken}
-use Rattle.echo.proofs.Laws.Refusals.{done}
+use Rattle.echo.proofs.Promises.{add-counts, add-is-session, add-keeps, add-pieces, done, double-block, opened-bits, opened-digest, opened-is-session}
+use Rattle.echo.proofs.Promises.{opened-mode, opened-taken}
 use Rattle.hmac.specs.declared.tag_session.TagAnswer.{TagAnswer}
 use Rattle.hmac.specs.declared.tag_session.TagSession.{TagSession}
 use Rattle.hmac.specs.DoublePipe.{blockSize, digestOf, opened}
@@ -38,6 +36,21 @@ module _ (h : ℕ) (salt key : List ℕ) where
   abbrev padded : List ℕ → List ℕ
   padded pad = xorBytes B (keyBlock (digestOf h salt) B key) pad
 
+  -- the session of some bytes
+  text-bits : (m : List ℕ) → addBytes (opened h salt) m .bits ≡ h
+  text-bits m = add-keeps (opened h salt) m .0 ∙ opened-bits DoublePipe h salt
+
+  text-mode : (m : List ℕ) → addBytes (opened h salt) m .mode ≡ DoublePipe
+  text-mode m = add-keeps (opened h salt) m .2 ∙ opened-mode DoublePipe h salt
+
+  text-taken : (m : List ℕ) → addBytes (opened h salt) m .taken ≡ 8 * length m
+  text-taken m = omega (arith, add-counts (opened h salt) m, opened-taken DoublePipe h salt)
+
+  text-is-session : (m : List ℕ) → admitted h ≡ true → length m ≤ limit → isSession (addBytes (opened h salt) m) ≡ true
+  text-is-session m a l =
+      let none = opened-taken DoublePipe h salt in
+      add-is-session (opened h salt) m (opened-is-session DoublePipe h salt a) (omega (arith, none)) (omega (arith, none))
+
   -- the session of a text
   abbrev holding : List ℕ → TagSession
   holding m = addTagBytes (openedTag h salt key) m
@@ -57,12 +70,12 @@ module _ (h : ℕ) (salt key : List ℕ) where
   outer-length = length-xor B _ (opad B)
 
   pub holds-bits : (m : List ℕ) → holding m .outer .bits ≡ h
-  holds-bits m = ap (λ (s : Session). s .bits) (outer-is m) ∙ opened-bits DoublePipe h salt (padded (opad B))
+  holds-bits m = ap (λ (s : Session). s .bits) (outer-is m) ∙ text-bits (padded (opad B))
 
   pub holds-count : (m : List ℕ) → holding m .inner .taken ≡ 8 * (B + length m)
   holds-count m =
       ap (λ (s : Session). s .taken) (inner-is m)
-      ∙ opened-taken DoublePipe h salt (padded (ipad B) ++ m)
+      ∙ text-taken (padded (ipad B) ++ m)
       ∙ ap (λ (n : ℕ). 8 * n) (inner-length m)
 
   -- what is read is the standard's tag
@@ -83,17 +96,17 @@ module _ (h : ℕ) (salt key : List ℕ) where
     holds-session m few =
         let S = double-block h in
         fits-tag (holding m) (record {
-          inner-is = ap isSession (inner-is m) ∙ opened-is-session DoublePipe h salt (padded (ipad B) ++ m) a (omega (arith, inner-length m));
-          outer-is = ap isSession (outer-is m) ∙ opened-is-session DoublePipe h salt (padded (opad B)) a (omega (arith, outer-length));
-          inner-mode = ap (λ (s : Session). s .mode) (inner-is m) ∙ opened-mode DoublePipe h salt (padded (ipad B) ++ m);
-          outer-mode = ap (λ (s : Session). s .mode) (outer-is m) ∙ opened-mode DoublePipe h salt (padded (opad B));
-          one-length = ap (λ (s : Session). s .bits) (inner-is m) ∙ opened-bits DoublePipe h salt (padded (ipad B) ++ m) ∙ sym (holds-bits m);
+          inner-is = ap isSession (inner-is m) ∙ text-is-session (padded (ipad B) ++ m) a (omega (arith, inner-length m));
+          outer-is = ap isSession (outer-is m) ∙ text-is-session (padded (opad B)) a (omega (arith, outer-length));
+          inner-mode = ap (λ (s : Session). s .mode) (inner-is m) ∙ text-mode (padded (ipad B) ++ m);
+          outer-mode = ap (λ (s : Session). s .mode) (outer-is m) ∙ text-mode (padded (opad B));
+          one-length = ap (λ (s : Session). s .bits) (inner-is m) ∙ text-bits (padded (ipad B) ++ m) ∙ sym (holds-bits m);
           one-salt =
               ap (λ (s : Session). s .salt) (inner-is m) ∙ add-keeps (opened h salt) (padded (ipad B) ++ m) .1
               ∙ sym (ap (λ (s : Session). s .salt) (outer-is m) ∙ add-keeps (opened h salt) (padded (opad B)) .1);
           outer-block =
               ap (λ (s : Session). s .taken) (outer-is m)
-              ∙ opened-taken DoublePipe h salt (padded (opad B))
+              ∙ text-taken (padded (opad B))
               ∙ ap (λ (n : ℕ). 8 * n) (outer-length ∙ ap blockSize (sym (holds-bits m)));
           inner-more = rw (holds-bits m, holds-count m) (omega arith);
           inner-whole = omega (arith, holds-count m);

@@ -6,7 +6,7 @@ use Prim.Native.Nat.{ℕ}
 use lib.ListN.{length}
 use Rattle.echo.specs.Refusals.{_when_, firstOf, noSalt, unless}
 use Rattle.echo.specs.Session.{admitted}
-use Rattle.echo.proofs.Laws.Refusals.{done, refused}
+use Rattle.echo.proofs.Promises.{done, kept}
 use Rattle.hmac.specs.declared.at_once.Verdict.{Verdict}
 use Rattle.hmac.specs.Hmac.{tagOf}
 use Rattle.hmac.specs.Routines.{checkAnswer, checkRefusal, tooLong, verifyRefusal}
@@ -48,7 +48,7 @@ module _ (h : ℕ) (salt key message tag : List ℕ) where
     told z t y = verify-number ∙ done checked _ _ (sym number ∙ z) ∙ ap (λ (b : Bool). firstOf ((19 when not b) ∷ [])) (sym (says z) ∙ y)
 
     pub verify-refused : (v .refusal ≡ 0 → ⊥) → v .refusal ≡ verifyRefusal h salt key message tag
-    verify-refused n = number ∙ refused (v .refusal) checked _ checked number n ∙ sym verify-number
+    verify-refused n = number ∙ sym (kept checked _ checked (λ z. n (number ∙ z))) ∙ sym verify-number
 
     pub verify-right : v .refusal ≡ 0 → v .yes ≡ true → 0 ≡ verifyRefusal h salt key message tag
     verify-right z y = sym (told z true y)

@@ -11,7 +11,7 @@ use lib.ListN.{drop, length}
 use Rattle.echo.specs.declared.mode.Mode.the-variants.{DoublePipe}
 use Rattle.echo.specs.Digest.{digestOf}
 use Rattle.echo.specs.Session.{digestLeaves, digestRefusal}
-use Rattle.echo.proofs.Laws.Pieces.{admitted-256}
+use Rattle.echo.proofs.Promises.{admitted-256}
 use Rattle.echo.proofs.Theorems.{at-once-is-the-digest}
 use Rattle.steering.specs.Fingerprint.{fingerprintAnswer, fingerprintLeaves, message, placeOf, refusalOf}
 use Rattle.steering.specs.Numbers.{AreBytes, either}

@@ -117,6 +117,10 @@ module _ (t : List ℕ) (place : ℕ) where
   pub found : (r : Record) (next : ℕ) → Found r next ≡ readAt t place → Here t place r next
   found r next = says (Found r next)
 
+-- a record that was found lies in the table, and the next place behind it
+pub found-within : (t : List ℕ) (place : ℕ) (r : Record) (next : ℕ) → Found r next ≡ readAt t place → (place < next) × (next ≤ length t)
+found-within t place r next e = let H = found t place r next e in (omega arith, omega arith)
+
 -- behind a record that the code read, less of the table is left
 pub less-left : (t : List ℕ) (at : ℕ) (x : Reading) (r : Record) (next : ℕ) → x ≡ Found r next → x ≡ readAt t at → length t - next < length t - at
 less-left t at x r next f e = let H = found t at r next (sym f ∙ e) in omega arith

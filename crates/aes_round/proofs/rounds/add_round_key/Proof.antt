@@ -4,7 +4,7 @@ use lib.ListN.{getD}
 use borrow.Author.Needs.{needs}
 use Rattle.aes_round.specs.Bytes.{xor, xorBytes}
 use Rattle.aes_round.specs.Rounds.{addRoundKey}
-use Rattle.aes_round.proofs.Laws.Fill.{Filled, fill-all, fill-more, fill-none}
+use Rattle.aes_round.proofs.Promises.{Filled, fill-all, fill-more, fill-none}
 use Rattle.aes_round.proofs.rounds.add_round_key.Statement.{statement}
 use Rattle.aes_round.proofs.rounds.add_round_key.Tie as tie
 

@@ -4,7 +4,7 @@ use lib.ListN.{getD}
 use mir.Syntax.{w8}
 use mir.Val.{Fits}
 use borrow.Author.Needs.{needs}
-use Rattle.aes_round.proofs.Laws.Fill.{Filled, fill-all, fill-more, fill-none}
+use Rattle.aes_round.proofs.Promises.{Filled, fill-all, fill-more, fill-none}
 use Rattle.aes_round.proofs.rounds.look_up.Statement.{statement}
 use Rattle.aes_round.proofs.rounds.look_up.Tie as tie
 

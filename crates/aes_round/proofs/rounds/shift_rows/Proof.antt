@@ -3,7 +3,7 @@ use mathlib.Core.Path.{_∙_}
 use Prim.Native.Nat.{_%_, _*_, _-_}
 use lib.ListN.{getD}
 use borrow.Author.Needs.{needs}
-use Rattle.aes_round.proofs.Laws.Fill.{Filled, fill-all, fill-more, fill-none}
+use Rattle.aes_round.proofs.Promises.{Filled, fill-all, fill-more, fill-none}
 use Rattle.aes_round.proofs.Laws.Rounds.{shift-word}
 use Rattle.aes_round.proofs.rounds.shift_rows.Statement.{statement}
 use Rattle.aes_round.proofs.rounds.shift_rows.Tie as tie

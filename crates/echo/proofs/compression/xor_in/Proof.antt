@@ -4,8 +4,7 @@ use Prim.Native.Nat.{_-_}
 use native.Mathlib.Omega.{arith}
 use lib.ListN.{getD, length}
 use borrow.Author.Needs.{needs}
-use Rattle.aes_round.proofs.Laws.Bytes.{}
-use Rattle.aes_round.proofs.Laws.Fill.{Filled, fill-more, fill-none}
+use Rattle.aes_round.proofs.Promises.{Filled, fill-more, fill-none}
 use Rattle.aes_round.specs.Bytes.{xor}
 use Rattle.echo.proofs.Laws.Compression.{xor-all, xor-old}
 use Rattle.echo.proofs.compression.xor_in.Statement.{statement}

@@ -3,7 +3,7 @@ use mathlib.Core.Path.{refl}
 use Prim.Native.Nat.{_%_, _-_, _/_, _^_, _≤_}
 use lib.ListN.{replicate}
 use borrow.Author.Needs.{needs}
-use Rattle.aes_round.proofs.Laws.Fill.{Filled, fill-more, fill-none}
+use Rattle.aes_round.proofs.Promises.{Filled, fill-more, fill-none}
 use Rattle.echo.proofs.Laws.Initial.{in-room, initial-filled}
 use Rattle.echo.proofs.initial.initial.Statement.{statement}
 use Rattle.echo.proofs.initial.initial.Tie as tie

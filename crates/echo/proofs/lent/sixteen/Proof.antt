@@ -2,7 +2,7 @@
 use Prim.Native.Nat.{_+_, _-_}
 use lib.ListN.{getD}
 use borrow.Author.Needs.{needs}
-use Rattle.aes_round.proofs.Laws.Fill.{Filled, fill-all, fill-more, fill-none}
+use Rattle.aes_round.proofs.Promises.{Filled, fill-all, fill-more, fill-none}
 use Rattle.echo.proofs.lent.sixteen.Statement.{statement}
 use Rattle.echo.proofs.lent.sixteen.Tie as tie
 

@@ -1,7 +1,7 @@
 -- `numbers_of_square` meets its contract, a number a turn. Assumes nothing.
 use Prim.Native.Nat.{_-_}
 use borrow.Author.Needs.{needs}
-use Rattle.aes_round.proofs.Laws.Fill.{Filled, fill-more, fill-none}
+use Rattle.aes_round.proofs.Promises.{Filled, fill-more, fill-none}
 use Rattle.echo.proofs.Laws.SquareNumbers.{numberOf, square-numbers}
 use Rattle.echo.proofs.numbers.numbers_of_square.Statement.{statement}
 use Rattle.echo.proofs.numbers.numbers_of_square.Tie as tie

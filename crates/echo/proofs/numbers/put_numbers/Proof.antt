@@ -1,7 +1,7 @@
 -- `put_numbers` meets its contract, a number a turn. Assumes nothing.
 use Prim.Native.Nat.{_-_, _*_, _≤_}
 use borrow.Author.Needs.{needs}
-use Rattle.aes_round.proofs.Laws.Fill.{Filled, fill-none}
+use Rattle.aes_round.proofs.Promises.{Filled, fill-none}
 use Rattle.echo.proofs.Laws.SquareNumbers.{all-numbers, byteAt, next-number}
 use Rattle.echo.proofs.numbers.put_numbers.Statement.{statement}
 use Rattle.echo.proofs.numbers.put_numbers.Tie as tie

@@ -3,8 +3,7 @@ use Prim.Native.Nat.{_-_, _≤_}
 use native.Mathlib.Omega.{arith}
 use borrow.Author.Needs.{needs}
 use Rattle.aes_round.specs.Bytes.{Bytes}
-use Rattle.aes_round.proofs.Laws.Bytes.{bytes-fit}
-use Rattle.aes_round.proofs.Laws.ByTables.{row-0, row-1, row-2, row-3}
+use Rattle.aes_round.proofs.Promises.{bytes-fit, row-0, row-1, row-2, row-3}
 use Rattle.echo.specs.Numbers.{halves}
 use Rattle.echo.proofs.Laws.ByTables.{RanBy, ran-by-all, ran-by-more, ran-by-none}
 use Rattle.echo.proofs.run_by_tables.run_by_tables.Statement.{statement}

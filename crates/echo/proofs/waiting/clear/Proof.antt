@@ -4,7 +4,7 @@ use Prim.Native.Nat.{_-_}
 use native.Mathlib.Omega.{arith}
 use lib.ListN.{length}
 use borrow.Author.Needs.{needs}
-use Rattle.aes_round.proofs.Laws.Fill.{Filled, fill-all, fill-more, fill-none}
+use Rattle.aes_round.proofs.Promises.{Filled, fill-all, fill-more, fill-none}
 use Rattle.echo.proofs.Laws.Waiting.{zeros-are}
 use Rattle.echo.proofs.waiting.clear.Statement.{statement}
 use Rattle.echo.proofs.waiting.clear.Tie as tie

@@ -5,7 +5,7 @@ use mathlib.Core.Bool.{false}
 use Prim.Native.Nat.{_-_, _≤_}
 use lib.ListN.{length, take}
 use Rattle.lines.specs.Lines.{Put}
-use Rattle.lines.proofs.Laws.Lines.{put-length}
+use Rattle.lines.proofs.Promises.{put-length}
 use Rattle.echosum.specs.Names.{unescaped}
 use Rattle.echosum.proofs.Laws.Names.{closed-at-first, openedAfter, opened-next, undone-all, undone-next, undone-none}
 use Rattle.echosum.proofs.names.put_unescaped.Statement.{statement}

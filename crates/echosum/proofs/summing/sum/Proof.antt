@@ -1,7 +1,9 @@
 -- `sum` is safe: a digest that was read fits its room. Assumes nothing.
+use mathlib.Core.Path.{_∙_, ap, sym}
 use borrow.Author.Needs.{needs}
 use native.Mathlib.Omega.{arith}
-use Rattle.echo.proofs.Laws.Refusals.{read-fits}
+use Rattle.echo.specs.declared.session.Answer.{Answer}
+use Rattle.echo.proofs.Promises.{read-fits}
 use Rattle.echosum.proofs.summing.sum.Statement.{statement}
 use Rattle.echosum.proofs.summing.sum.Tie as tie
 
@@ -33,7 +35,9 @@ part-print-line-start : tie.Need-part-print-line-start
 part-print-line-start c = search needs
 
 part-print-line-end : tie.Need-part-print-line-end
-part-print-line-end c = omega (arith, read-fits _ _ (c .before .before .before .before .read .ensures .0) (c .before .before .if2 .left))
+part-print-line-end c =
+    let answer = c .before .before .before .before .read .ensures .0 in
+    omega (arith, read-fits _ _ (sym (ap (λ (r : Answer). r .refusal) answer) ∙ c .before .before .if2 .left))
 
 print-line-requires : tie.Need-print-line-requires
 print-line-requires c κs = search needs

@@ -1,5 +1,5 @@
 -- `block_size` meets its contract. Assumes nothing.
-use Rattle.echo.proofs.Laws.Families.{block-long, block-short}
+use Rattle.echo.proofs.Promises.{block-long, block-short}
 use Rattle.hmac.proofs.key_block.block_size.Statement.{statement}
 use Rattle.hmac.proofs.key_block.block_size.Tie as tie
 

@@ -4,7 +4,7 @@ use Prim.Native.Nat.{_-_, _≤_}
 use native.Mathlib.Omega.{arith}
 use lib.ListN.{getD, length, replicate}
 use borrow.Author.Needs.{needs}
-use Rattle.aes_round.proofs.Laws.Fill.{Filled, fill-none}
+use Rattle.aes_round.proofs.Promises.{Filled, fill-none}
 use Rattle.hmac.proofs.Laws.KeyBlock.{copied-block, copied-number, copy-more, digested-block, digested-number, key-within}
 use Rattle.hmac.proofs.key_block.key_block.Statement.{statement}
 use Rattle.hmac.proofs.key_block.key_block.Tie as tie

@@ -5,7 +5,7 @@ use native.Mathlib.Omega.{arith}
 use lib.ListN.{getD, replicate}
 use borrow.Author.Needs.{needs}
 use Rattle.aes_round.specs.Bytes.{xor}
-use Rattle.aes_round.proofs.Laws.Fill.{Filled, fill-none}
+use Rattle.aes_round.proofs.Promises.{Filled, fill-none}
 use Rattle.hmac.proofs.Laws.KeyBlock.{front-count, keyed-session, pad-more, size-within}
 use Rattle.hmac.proofs.key_block.keyed.Statement.{statement}
 use Rattle.hmac.proofs.key_block.keyed.Tie as tie

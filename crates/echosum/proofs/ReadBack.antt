@@ -25,25 +25,12 @@ use Rattle.echosum.specs.Bytes.{holdsOf, part, sameOf}
 use Rattle.echosum.specs.Hexadecimal.{hexFrom, hexOf}
 use Rattle.echosum.specs.Listed.{begins, closes, double, framedOf, headOf, isAdmitted, listedOf, markIn, modeOf, opens, single, taggedOf}
 use Rattle.echosum.specs.Names.{isName, unescaped}
+use Rattle.echosum.specs.ReadBack.{AreBytes, ReadBack, none, one}
 use Rattle.echosum.specs.Style.{backOf, endOf, frontOf, lineOf, tagOf, taggedLine}
 use Rattle.echosum.proofs.Laws.Bytes.{equal-same}
 use Rattle.echosum.proofs.Laws.Listed.{head-good, it-is-tagged, marked, same-beginning, tagged-good, unmarked}
 use Rattle.echosum.proofs.Laws.Names.{escaped-is-name, plain-is-name, unescaped-escaped}
 use Rattle.echosum.proofs.Laws.Style.{by, length-digits}
-
--- each is a byte
-pub data AreBytes : List ℕ → Type 0 where
-  none : AreBytes []
-  one : {x : ℕ} {xs : List ℕ} → x < 256 → AreBytes xs → AreBytes (x ∷ xs)
-
--- what was read of a line, r, is what the line was made of
-pub record ReadBack (bits : ℕ) (isSingle : Bool) (salt digest name line : List ℕ) (r : Listed) : Type 0 where
-  pub is-good : r .«is_good» ≡ true
-  pub bits-are : r .bits ≡ bits
-  pub mode-is : r .«is_single» ≡ isSingle
-  pub salt-is : r .salt ≡ salt
-  pub digest-is : r .digest ≡ digest ++ drop (length digest) (replicate 64 0)
-  pub name-is : cond (r .«is_escaped») (unescaped (part (r .from) (r .to) line)) (part (r .from) (r .to) line) ≡ name
 
 -- the number of a mode
 abbrev modeNumber : Bool → ℕ

@@ -21,12 +21,13 @@ use Rattle.echosum.specs.Bytes.{holdsOf, part, sameOf}
 use Rattle.echosum.specs.Hexadecimal.{digitsIn, hexOf}
 use Rattle.echosum.specs.Listed.{begins, bitsFor, framedOf, headOf, isAdmitted, listedOf, markIn, plainTo, taggedBy, taggedOf}
 use Rattle.echosum.specs.Names.{isName, unescaped}
+use Rattle.echosum.specs.ReadBack.{AreBytes, ReadBack, one}
 use Rattle.echosum.specs.Style.{backOf, endOf, frontOf, lineOf, plainLine}
 use Rattle.echosum.proofs.Laws.Bytes.{same-equal}
 use Rattle.echosum.proofs.Laws.Listed.{from-there, it-is-plain, marked, none-wanted, plain-good, these-wanted, two-spaces, unmarked}
 use Rattle.echosum.proofs.Laws.Names.{escaped-is-name, plain-is-name, still, unescaped-escaped}
 use Rattle.echosum.proofs.Laws.Style.{by, length-digits}
-use Rattle.echosum.proofs.ReadBack.{AreBytes, ReadBack, admitted-bounds, hex-back, high, last, low, middle, one}
+use Rattle.echosum.proofs.ReadBack.{admitted-bounds, hex-back, high, last, low, middle}
 
 -- ---- the digits in front
 

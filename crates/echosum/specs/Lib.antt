@@ -3,4 +3,5 @@ pub mod Bytes
 pub mod Hexadecimal
 pub mod Listed
 pub mod Names
+pub mod ReadBack
 pub mod Style

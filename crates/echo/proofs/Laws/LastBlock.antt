@@ -8,7 +8,7 @@ use native.Mathlib.Omega.{arith}
 use borrow.Author.Tests.{lt-ltb}
 use lib.ListN.{drop, length, length-append, length-replicate, replicate, take}
 use lib.Seq.{take-all}
-use Rattle.aes_round.proofs.Laws.Bytes.{length-tab}
+use Rattle.aes_round.proofs.Promises.{length-tab}
 use Rattle.echo.specs.Bits.{bitsOf, packed}
 use Rattle.echo.specs.Compression.{compress}
 use Rattle.echo.specs.Digest.{block, blockCount, counterAt, iterate}

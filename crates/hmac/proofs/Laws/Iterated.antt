@@ -15,9 +15,7 @@ use Rattle.echo.specs.Families.{blockSize, chainingSize, roundCount}
 use Rattle.echo.specs.Padding.{padding}
 use Rattle.echo.specs.Session.{addBytes, admitted, bitLimit, sessionDigest}
 use Rattle.echo.specs.Square.{keysFrom}
-use Rattle.echo.proofs.Laws.Continued.{session-digest-long}
-use Rattle.echo.proofs.Laws.Families.{double-block}
-use Rattle.echo.proofs.Laws.Kept.{add-keeps}
+use Rattle.echo.proofs.Promises.{add-keeps, double-block, session-digest-long}
 use Rattle.echo.proofs.Theorems.{a-session-digest-continues-the-iteration, a-short-rest-is-one-compression, admitted-exactly, sessions-exactly}
 use Rattle.hmac.specs.declared.tag_session.TagSession.{TagSession}
 use Rattle.hmac.specs.TagSession.{isTagSession}

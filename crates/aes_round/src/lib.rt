@@ -11,7 +11,7 @@
 //
 // with the field of bytes, the substitution and the mix of a column that it is made of. No routine refuses anything: each is
 // total, and its contract is an equation with a definition of specs/. What the layer above needs to know of those definitions
-// (the ways back undo each other, mix and row shift go through xor, results are bytes again) is proved in proofs/Laws/.
+// (the ways back undo each other, mix and row shift go through xor, results are bytes again) is in proofs/Promises.antt.
 mod by_tables;
 mod field;
 mod mixing;

@@ -2,6 +2,7 @@ pub mod Joined
 pub mod Zeros
 pub mod Bits
 pub mod BitTests
+pub mod Admitted
 pub mod Numbers
 pub mod Counter
 pub mod Placed

@@ -1,7 +1,7 @@
 -- What the crates above may cite of this one, besides its specs, its contracts and its theorems (Theorems.antt): each promise is in the words of specs/,
 -- and its proof is a law of this crate. Assumes nothing.
 use mathlib.Core.Path.{_≡_, refl, sym}
-use mathlib.Core.Bool.{not, true}
+use mathlib.Core.Bool.{Bool, not, true, _&&_}
 use mathlib.Core.List.{List, [], _∷_, _++_}
 use Prim.Native.Nat.{ℕ, _+_, _*_, _/_, _%_, _<_, _≤_}
 use lib.Dec.{ltb}
@@ -26,14 +26,12 @@ use Rattle.echo.proofs.Laws.Pieces as pieces
 use Rattle.echo.proofs.Laws.Placed as placed
 use Rattle.echo.proofs.Laws.Refusals as refusals
 use Rattle.echo.proofs.Laws.Sessions as sessions
+use Rattle.echo.proofs.Laws.Zeros as zeros
 
 -- ---- lengths and sizes
 
 pub admitted-256 : admitted 256 ≡ true
 admitted-256 = pieces.admitted-256
-
-pub most-bits : (h : ℕ) → admitted h ≡ true → h ≤ 512
-most-bits = sessions.most-bits
 
 -- the blocks of double-pipe in bytes
 pub double-block : (h : ℕ) → (128 ≤ blockSize DoublePipe h) × (blockSize DoublePipe h ≤ 192)
@@ -63,6 +61,12 @@ joined-lengths = pieces.joined-lengths
 -- w at the front of a room of which the rest is as it was
 pub placed-front : (room w r : List ℕ) (n : ℕ) → length w ≡ n → n ≤ length room → Placed room 0 w n r → r ≡ w ++ drop n room
 placed-front = placed.placed-front
+
+-- ---- tests
+
+-- a test that came out true came through each of its parts
+pub both : (a b : Bool) → (a && b) ≡ true → (a ≡ true) × (b ≡ true)
+both = zeros.both
 
 -- ---- what is left behind where nothing is refused, and where something is
 

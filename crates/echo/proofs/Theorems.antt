@@ -61,6 +61,7 @@ use Rattle.echo.specs.Session.{
 use Rattle.echo.specs.SinglePipe.{compress51, compress52}
 use Rattle.echo.specs.Square.{bigMixColumns, bigShiftRows, bigSubWords, counterKey, keysFrom, rounds, roundsBack, wideKey, wideKeysFrom, word}
 use Rattle.echo.proofs.ARefusalChangesNothing as refusing
+use Rattle.echo.proofs.Laws.Admitted as admitted-in-words
 use Rattle.echo.proofs.Laws.AtOnce as at-once
 use Rattle.echo.proofs.Laws.ByTables as by-tables
 use Rattle.echo.proofs.Laws.Continued as continued
@@ -138,7 +139,7 @@ a-refused-digest-of-bits-leaves-the-room = refusing.a-refused-digest-of-bits-lea
 
 -- ---- of the refusals that apply the lowest is given
 
-pub the-first-of-a-list-that-ascends-is-the-lowest : (l : List Refusal) → ascends l ≡ true → Lowest (firstOf l) l
+pub the-first-of-a-list-that-ascends-is-the-lowest : (l : List Refusal) → ascends 0 l ≡ true → Lowest (firstOf l) l
 the-first-of-a-list-that-ascends-is-the-lowest = lowest.lowest-of
 
 pub a-list-has-one-lowest : (n m : ℕ) (l : List Refusal) → Lowest n l → Lowest m l → n ≡ m
@@ -146,7 +147,7 @@ a-list-has-one-lowest = lowest.one-lowest
 
 -- a number of a list that ascends is given exactly where its condition holds and none before it is given
 pub a-number-is-given-exactly-where-none-before-it-is : (before after : List Refusal) (n : ℕ) (condition : Bool)
-    → ascends (before ++ (n when condition) ∷ after) ≡ true
+    → ascends 0 (before ++ (n when condition) ∷ after) ≡ true
     → (firstOf (before ++ (n when condition) ∷ after) ≡ n) ↔ ((firstOf before ≡ 0) × (condition ≡ true))
 a-number-is-given-exactly-where-none-before-it-is = lowest.given-exactly
 
@@ -368,7 +369,7 @@ a-short-rest-is-one-compression c r b h q salt v rest some short = last-block.la
 -- ---- any record
 
 pub admitted-exactly : (h : ℕ) → (admitted h ≡ true) ↔ ((128 ≤ h) × (h ≤ 512) × (h % 8 ≡ 0))
-admitted-exactly = exactly.admitted-exactly
+admitted-exactly = admitted-in-words.admitted-exactly
 
 -- past the end of a list `getD` gives its last argument, 0
 pub sessions-exactly : (s : Session)

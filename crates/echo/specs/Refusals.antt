@@ -28,12 +28,9 @@ pub data Lowest (number : ℕ) (l : List Refusal) : Type 0 where
   none : number ≡ 0 → ((other : ℕ) → Applies other l → ⊥) → Lowest number l
 
 -- the numbers of a list rise, each above the one before it and the first above a given one, whatever the conditions
-abbrev pub ascendsFrom : ℕ → List Refusal → Bool
-ascendsFrom below [] = true
-ascendsFrom below ((n when condition) ∷ rest) = ltb below n && ascendsFrom n rest
-
-abbrev pub ascends : List Refusal → Bool
-ascends l = ascendsFrom 0 l
+abbrev pub ascends : ℕ → List Refusal → Bool
+ascends below [] = true
+ascends below ((n when condition) ∷ rest) = ltb below n && ascends n rest
 
 -- what is left behind: the first where nothing is refused, the second where something is
 abbrev pub unless : {A : Type 0} → ℕ → A → A → A

@@ -25,7 +25,7 @@ use Rattle.echosum.specs.Bytes.{holdsOf, part, sameOf}
 use Rattle.echosum.specs.Hexadecimal.{hexFrom, hexOf}
 use Rattle.echosum.specs.Listed.{begins, closes, double, framedOf, headOf, isAdmitted, listedOf, markIn, modeOf, opens, single, taggedOf}
 use Rattle.echosum.specs.Names.{isName, unescaped}
-use Rattle.echosum.specs.ReadBack.{AreBytes, ReadBack, none, one}
+use Rattle.echosum.specs.ReadBack.{AreBytes, ReadBack, one}
 use Rattle.echosum.specs.Style.{backOf, endOf, frontOf, lineOf, tagOf, taggedLine}
 use Rattle.echosum.proofs.Laws.Bytes.{equal-same}
 use Rattle.echosum.proofs.Laws.Listed.{head-good, it-is-tagged, marked, same-beginning, tagged-good, unmarked}

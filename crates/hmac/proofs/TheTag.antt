@@ -15,7 +15,7 @@ use Rattle.echo.specs.declared.mode.Mode.the-variants.{DoublePipe}
 use Rattle.echo.specs.Pieces.{joined}
 use Rattle.echo.specs.Session.{addBytes, admitted, bitLimit, isSession, limit, sessionDigest}
 use Rattle.echo.proofs.Promises.{add-counts, add-is-session, add-keeps, digest-long, done, double-block, joined-lengths, joined-more, joined-none}
-use Rattle.echo.proofs.Promises.{most-bits}
+use Rattle.echo.proofs.Theorems.{admitted-exactly}
 use Rattle.hmac.specs.declared.at_once.Verdict.{Verdict}
 use Rattle.hmac.specs.declared.tag_session.Checking.{Checking}
 use Rattle.hmac.specs.declared.tag_session.TagAnswer.{TagAnswer}
@@ -44,7 +44,7 @@ the-key-block-is-a-block h salt key a = by (ltb (blockSize h) (length key)) refl
     by : (t : Bool) → ltb (blockSize h) (length key) ≡ t → length (keyBlock (digestOf h salt) (blockSize h) key) ≡ blockSize h
     by true p =
         let S = double-block h in
-        let most = most-bits h a in
+        let most = admitted-exactly h .0 a .1 in
         rw p (length-with-zeros (blockSize h) (digestOf h salt key) (omega (arith, digest-long DoublePipe h salt a key, most)))
     by false p = rw p (length-with-zeros (blockSize h) key (ltb-false (blockSize h) (length key) p))
 
@@ -64,7 +64,7 @@ module _ (h : ℕ) (salt : List ℕ) where
   pub a-long-key-is-its-digest : (key : List ℕ) → admitted h ≡ true → blockSize h < length key → K0 (digestOf h salt key) ≡ K0 key
   a-long-key-is-its-digest key a l =
       let S = double-block h in
-      let most = most-bits h a in
+      let most = admitted-exactly h .0 a .1 in
       its-digest (digestOf h salt) (blockSize h) key l (omega (arith, digest-long DoublePipe h salt a key, most))
 
   pub keys-of-one-length-have-different-blocks : (key key′ : List ℕ) → length key ≡ length key′ → length key ≤ blockSize h → K0 key ≡ K0 key′ → key ≡ key′

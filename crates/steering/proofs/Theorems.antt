@@ -17,10 +17,18 @@ use Rattle.steering.specs.Parsing.{AllFit, accepted, parse, refused, tab
 use Rattle.steering.specs.Reading.{numberOf, readAt}
 use Rattle.steering.specs.Records.{Fits, bodyLength, bodyOf, kindOf}
 use Rattle.steering.specs.declared.reading.Reading.the-variants.{Found}
+use Rattle.steering.specs.declared.records.Radio.the-variants.{High, Low}
 use Rattle.steering.specs.declared.records.Record.{Record}
+use Rattle.steering.specs.declared.records.Record.the-variants.{Floor, Node}
+use Rattle.steering.proofs.Laws.Example as example
 use Rattle.steering.proofs.Laws.Fingerprint as fingerprints
 use Rattle.steering.proofs.Laws.Lowest as lowest
 use Rattle.steering.proofs.Laws.Outcomes as outcomes
+
+-- the table of the scope: the node address a20000000007 and the join floors 3c at 2.4 GHz and 41 at 5 GHz
+pub the-table-of-the-scope-is-read : parse (1 ∷ 162 ∷ 0 ∷ 0 ∷ 0 ∷ 0 ∷ 7 ∷ 2 ∷ 0 ∷ 60 ∷ 3 ∷ 0 ∷ 65 ∷ [])
+    ≡ accepted (Node (record { address = 178120883699719 }) ∷ Floor (record { radio = Low; level = 60 }) ∷ Floor (record { radio = High; level = 65 }) ∷ [])
+the-table-of-the-scope-is-read = example.three-records
 
 -- a table is accepted exactly where it is the bytes of its records in order, whose numbers fit their fields, at most 4,096 of them
 pub accepted-exactly : (t : List ℕ) (rs : List Record) → AreBytes t → (parse t ≡ accepted rs) ↔ ((t ≡ tableOf rs) × AllFit rs × (length t ≤ 4096))

@@ -147,7 +147,7 @@ module _ (n chaining block salt : ℕ) where
   abbrev Salted : Type 0
   Salted = (salt ≡ 16) × (((n ≡ 0 → ⊥) × (n ≡ 1 → ⊥)) ⊎ (fit ≡ false))
 
-  module _ (after : List Refusal) (up : ascends ((2 when noSalt salt) ∷ (6 when noMode n || not fit) ∷ after) ≡ true) where
+  module _ (after : List Refusal) (up : ascends 0 ((2 when noSalt salt) ∷ (6 when noMode n || not fit) ∷ after) ≡ true) where
     behind-2 : (firstOf ((2 when noSalt salt) ∷ (6 when noMode n || not fit) ∷ after) ≡ 6) ↔ Salted
     behind-2 = (there, back)
       where

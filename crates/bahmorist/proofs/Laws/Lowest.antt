@@ -6,7 +6,8 @@ use Prim.Native.Nat.{ℕ, _/_}
 use lib.Dec.{ltb}
 use Rattle.echo.specs.Refusals.{Lowest, Refusal, _when_, firstOf, noSalt, unless}
 use Rattle.echo.specs.Session.{admitted, digestRefusal, limit}
-use Rattle.echo.proofs.Theorems.{a-digest-is-refused-by-the-lowest, a-list-has-one-lowest, the-first-of-a-list-that-ascends-is-the-lowest}
+use Rattle.echo.proofs.Promises.{digest-number}
+use Rattle.echo.proofs.Theorems.{the-first-of-a-list-that-ascends-is-the-lowest}
 use Rattle.bahmorist.specs.Modes.{digestInRefusal, noMode}
 
 abbrev pub four : Bool → Bool → Bool → Bool → List Refusal
@@ -27,8 +28,7 @@ module _ (h salt message room : ℕ) where
   own = four (not (admitted h)) (noSalt salt) (ltb limit message) (ltb room (h / 8))
 
   pub digest-first : digestRefusal h salt message room ≡ firstOf own
-  digest-first =
-      a-list-has-one-lowest _ _ own (a-digest-is-refused-by-the-lowest h salt message room) (the-first-of-a-list-that-ascends-is-the-lowest own refl)
+  digest-first = digest-number h salt message room
 
   pub digest-in-first : (n : ℕ) → digestInRefusal n h salt message room ≡ firstOf (own ++ (6 when noMode n) ∷ [])
   unfolding digestInRefusal

@@ -1,32 +1,19 @@
--- Which lengths are admitted and which records are sessions, in plain words. Assumes nothing.
+-- Which records are sessions, in plain words. Assumes nothing.
 use mathlib.Core.Path.{_≡_, refl}
 use mathlib.Core.Bool.{true}
 use mathlib.Core.Logic.{_↔_}
 use mathlib.Core.List.{List, [], _∷_}
 use Prim.Native.Nat.{ℕ, suc, _+_, _-_, _%_, _^_, _≤_}
 use native.Mathlib.Omega.{arith}
-use borrow.Author.Tests.{eq-eqb, eqb-true, le-leb, leb-true}
-use lib.Dec.{leb}
+use borrow.Author.Tests.{eq-eqb, le-leb}
 use lib.ListN.{drop, getD}
 use lib.Seq.{getD-drop}
 use Rattle.echo.specs.declared.session.Session.{Session}
 use Rattle.echo.specs.Bits.{bitsOf}
-use Rattle.echo.specs.Session.{admitted, allZero, bitLimit, chainingOf, isSession, msizeOf}
+use Rattle.echo.specs.Session.{allZero, bitLimit, chainingOf, isSession, msizeOf}
+use Rattle.echo.proofs.Laws.Admitted.{admitted-means, means-admitted}
 use Rattle.echo.proofs.Laws.Sessions.{session-fits}
-use Rattle.echo.proofs.Laws.Zeros.{both, zero-from}
-
-admitted-means : (h : ℕ) → admitted h ≡ true → (128 ≤ h) × (h ≤ 512) × (h % 8 ≡ 0)
-unfolding admitted
-admitted-means h e =
-    let p = both (leb 128 h) _ e in
-    let q = both (leb h 512) _ (p .1) in (leb-true 128 h (p .0), leb-true h 512 (q .0), eqb-true (h % 8) 0 (q .1))
-
-means-admitted : (h : ℕ) → (128 ≤ h) × (h ≤ 512) × (h % 8 ≡ 0) → admitted h ≡ true
-unfolding admitted
-means-admitted h p = rw (le-leb 128 h (p .0), le-leb h 512 (p .1), eq-eqb (h % 8) 0 (p .2))
-
-pub admitted-exactly : (h : ℕ) → (admitted h ≡ true) ↔ ((128 ≤ h) × (h ≤ 512) × (h % 8 ≡ 0))
-admitted-exactly h = (admitted-means h, means-admitted h)
+use Rattle.echo.proofs.Laws.Zeros.{zero-from}
 
 all-zero : (l : List ℕ) → ((k : ℕ) → getD l k 0 ≡ 0) → allZero l ≡ true
 unfolding allZero

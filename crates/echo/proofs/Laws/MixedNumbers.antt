@@ -11,7 +11,7 @@ use Rattle.aes_round.specs.Array.{column}
 use Rattle.aes_round.specs.Bytes.{Bytes, tab}
 use Rattle.aes_round.specs.ByTables.{mixNumbers}
 use Rattle.aes_round.specs.Mixing.{forward, mixColumn}
-use Rattle.aes_round.specs.Numbers.{byteOf, bytesOf, number, numbers}
+use Rattle.aes_round.specs.Numbers.{byteOf, bytesOf, numbers}
 use Rattle.aes_round.proofs.Promises.{agree, are-numbers, byte-of-numbers, bytes-of-numbers, entry-is, entry-mix, getD-column, getD-mix-numbers}
 use Rattle.aes_round.proofs.Promises.{getD-numbers, is-tab, length-column, number-ext}
 use Rattle.echo.specs.Square.{bigMixColumns}

@@ -17,11 +17,12 @@ use Rattle.echo.specs.Pieces.{joined}
 use Rattle.echo.specs.Refusals.{_when_, firstOf, noSalt}
 use Rattle.echo.specs.Session.{addAnswer, addBits, addBitsAnswer, addBytes, admitted, bitLimit, blank, isSession, limit, openAnswer}
 use Rattle.echo.specs.Session.{openRefusal, opened, readAnswer, readLeaves, sessionDigest}
+use Rattle.echo.proofs.Laws.Admitted.{admitted-means}
 use Rattle.echo.proofs.Laws.Bits.{Sized, whole-sized, whole-taken}
 use Rattle.echo.proofs.Laws.Continued.{session-digest-long}
 use Rattle.echo.proofs.Laws.Opened.{add-behind, add-whole, added-bits, added-is-session, added-taken, bits-digest, bits-is-session, bits-length}
 use Rattle.echo.proofs.Laws.Opened.{opened-digest}
-use Rattle.echo.proofs.Laws.Sessions.{Addable, add-4, added, left-0, left-5, most-bits, not-added, nothing-refused, open-0, read-0, read-5, session-fits}
+use Rattle.echo.proofs.Laws.Sessions.{Addable, add-4, added, left-0, left-5, not-added, nothing-refused, open-0, read-0, read-5, session-fits}
 use Rattle.echo.proofs.Laws.Words.{sixteen-are}
 
 pub admitted-256 : admitted 256 ≡ true
@@ -151,5 +152,5 @@ module _ (mode : Mode) (h : ℕ) (salt : List ℕ) (a : admitted h ≡ true) whe
   pub digest-long : (m : List ℕ) → length (digestOf mode h salt m) ≡ h / 8
   digest-long m =
       let bits = added-bits mode h salt m in
-      let most = most-bits h a in
+      let most = admitted-means h a .1 in
       sym (ap length (opened-digest mode h salt m)) ∙ session-digest-long (addBytes (opened mode h salt) m) (rw bits most) ∙ ap (λ (n : ℕ). n / 8) bits

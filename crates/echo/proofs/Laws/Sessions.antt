@@ -24,6 +24,7 @@ use Rattle.echo.proofs.Laws.Families.{digest-in-chaining, sizes}
 use Rattle.echo.proofs.Laws.Placed.{placed-front}
 use Rattle.echo.proofs.Laws.Refusals.{none-first}
 use Rattle.echo.proofs.Laws.Words.{sixteen-are}
+use Rattle.echo.proofs.Laws.Admitted.{admitted-means}
 use Rattle.echo.proofs.Laws.Zeros.{both}
 
 -- ---- which records are sessions: the answers of is_session, by the tests a, w and v that the code made
@@ -53,10 +54,6 @@ module _ (s : Session) (a : Bool) (e : a ≡ admitted (s .bits)) where
           rw (← e, not-false a holds, le-leb (s .taken) bitLimit n, ← rest-is, not-false w clear)
           (q ∙ ap (λ (x : ℕ). allZero (drop x (s .chaining))) p)
 
-pub most-bits : (h : ℕ) → admitted h ≡ true → h ≤ 512
-unfolding admitted
-most-bits h e = leb-true h 512 (both (leb h 512) _ (both (leb 128 h) _ e .1) .0)
-
 pub record SessionFits (s : Session) : Type 0 where
   pub admits : admitted (s .bits) ≡ true
   pub taken-fits : s .taken ≤ bitLimit
@@ -83,7 +80,7 @@ module _ (s : Session) (a : Bool) (e : a ≡ isSession s) (holds : not a ≡ fal
   fits = session-fits s is-one
 
   pub bits-most : s .bits ≤ 512
-  bits-most = most-bits (s .bits) (fits .admits)
+  bits-most = admitted-means (s .bits) (fits .admits) .1
 
   pub taken-most : s .taken ≤ bitLimit
   taken-most = fits .taken-fits
@@ -232,7 +229,7 @@ module _ (mode : Mode) (h : ℕ) (salt : List ℕ) (a : Bool) (e : a ≡ admitte
 
   module _ (holds : not a ≡ false) where
     pub admitted-most : h ≤ 512
-    admitted-most = most-bits h (sym e ∙ not-false a holds)
+    admitted-most = admitted-means h (sym e ∙ not-false a holds) .1
 
     pub open-2 : (length salt ≡ 16 → ⊥) → (s : Session) → s ≡ blank → _≡_ {A = Answer} (record { refusal = 2; session = s }) (openAnswer mode h salt)
     unfolding openAnswer openRefusal

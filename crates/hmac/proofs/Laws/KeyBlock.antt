@@ -18,8 +18,8 @@ use Rattle.echo.specs.declared.session.Session.{Session}
 use Rattle.echo.specs.Families.{either}
 use Rattle.echo.specs.Placed.{Placed}
 use Rattle.echo.specs.Session.{addAnswer, addBytes, admitted, digestLeaves, digestRefusal, isSession, limit}
-use Rattle.echo.proofs.Promises.{digest-long, digest-number, double-block, most-bits, placed-front, takes-bytes}
-use Rattle.echo.proofs.Theorems.{at-once-is-the-digest}
+use Rattle.echo.proofs.Promises.{digest-long, digest-number, double-block, placed-front, takes-bytes}
+use Rattle.echo.proofs.Theorems.{admitted-exactly, at-once-is-the-digest}
 use Rattle.hmac.specs.DoublePipe.{blockSize, digestOf}
 use Rattle.hmac.specs.Hmac.{keyBlock, withZeros}
 
@@ -59,7 +59,7 @@ fewer-zeros n m s l few =
 
 module _ (h : ℕ) (salt key : List ℕ) (a : admitted h ≡ true) (l : length salt ≡ 16) (b : ℕ) (size : b ≡ blockSize h) where
   most : h ≤ 512
-  most = most-bits h a
+  most = admitted-exactly h .0 a .1
 
   -- the key is digested
   module _ (r : ℕ) (e : r ≡ digestRefusal h (length salt) (length key) 192) where

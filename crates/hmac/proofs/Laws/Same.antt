@@ -14,12 +14,8 @@ use lib.ListN.{getD, length}
 use lib.Seq.{ext-getD}
 use Rattle.aes_round.proofs.Promises.{code-xor, xor-self, xor-twice, xor-zero-l}
 use Rattle.aes_round.specs.Bytes.{xor}
+use Rattle.echo.proofs.Promises.{both}
 use Rattle.hmac.specs.Same.{same}
-
--- a test that came out true came through each of its parts
-pub both : (a b : Bool) → (a && b) ≡ true → (a ≡ true) × (b ≡ true)
-both true b e = (refl, e)
-both false b e = absurd (true≢false (sym e))
 
 -- ---- the same exactly where equal
 

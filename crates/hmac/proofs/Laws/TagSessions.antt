@@ -13,8 +13,9 @@ use Rattle.echo.specs.declared.mode.Mode.the-variants.{DoublePipe, SinglePipe}
 use Rattle.echo.specs.declared.session.Answer.{Answer}
 use Rattle.echo.specs.declared.session.Session.{Session}
 use Rattle.echo.specs.Session.{addAnswer, bitLimit, isSession, readAnswer, readLeaves, sessionDigest}
-use Rattle.echo.proofs.Promises.{add-is-session, add-keeps, double-block, most-bits, reads-room, refuses-bytes, refuses-room, session-admits}
+use Rattle.echo.proofs.Promises.{add-is-session, add-keeps, both, double-block, reads-room, refuses-bytes, refuses-room, session-admits}
 use Rattle.echo.proofs.Promises.{session-digest-long, takes-bytes}
+use Rattle.echo.proofs.Theorems.{admitted-exactly}
 use Rattle.hmac.specs.declared.tag_session.Checking.{Checking}
 use Rattle.hmac.specs.declared.tag_session.TagAnswer.{TagAnswer}
 use Rattle.hmac.specs.declared.tag_session.TagSession.{TagSession}
@@ -22,7 +23,7 @@ use Rattle.hmac.specs.DoublePipe.{blockSize, isDoublePipe}
 use Rattle.hmac.specs.Same.{same}
 use Rattle.hmac.specs.TagSession.{addTagAnswer, addTagBytes, addTagRefusal, checkTagAnswer, checkTagRefusal, closedBy, countsFit}
 use Rattle.hmac.specs.TagSession.{isTagSession, readTagAnswer, readTagLeaves, readTagRefusal, sessionTag}
-use Rattle.hmac.proofs.Laws.Same.{both, same-equal, same-self}
+use Rattle.hmac.proofs.Laws.Same.{same-equal, same-self}
 
 -- ---- which records are tag sessions: the answers of is_session, by the tests i, o, m, d and s that the code made
 
@@ -163,7 +164,7 @@ module _ (t : TagSession) (piece : List ℕ) (a : Bool) (e : a ≡ isTagSession 
 -- ---- the outer session with the digest of the inner one
 
 bits-most : (s : Session) → isSession s ≡ true → s .bits ≤ 512
-bits-most s is = most-bits (s .bits) (session-admits s is)
+bits-most s is = admitted-exactly (s .bits) .0 (session-admits s is) .1
 
 -- the digest of any session fits 64 bytes
 digest-within : (s : Session) → isSession s ≡ true → (d : List ℕ) → length d ≡ 64 → s .bits / 8 ≤ length d

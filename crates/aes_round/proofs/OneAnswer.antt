@@ -15,41 +15,41 @@ use Rattle.aes_round.proofs.rows.row_tables.Reads as row_tables
 use Rattle.aes_round.proofs.by_tables.round_by_tables.Reads as round_by_tables
 use Rattle.aes_round.proofs.numbers.mix_numbers.Reads as mix_numbers
 
-pub double-has-one-answer : (κs : _) (a : _) (r r' : _) (s s' : _) → double.Post κs a r s → double.Post κs a r' s' → r ≡ r'
-double-has-one-answer κs a r r' s s' p q = p ∙ sym q
+pub double_has_one_answer : (κs : _) (a : _) (r r' : _) (s s' : _) → double.Post κs a r s → double.Post κs a r' s' → r ≡ r'
+double_has_one_answer κs a r r' s s' p q = p ∙ sym q
 
-pub times-has-one-answer : (κs : _) (a : _) (r r' : _) (s s' : _) → times.Post κs a r s → times.Post κs a r' s' → r ≡ r'
-times-has-one-answer κs a r r' s s' p q = p ∙ sym q
+pub times_has_one_answer : (κs : _) (a : _) (r r' : _) (s s' : _) → times.Post κs a r s → times.Post κs a r' s' → r ≡ r'
+times_has_one_answer κs a r r' s s' p q = p ∙ sym q
 
-pub substitute-has-one-answer : (κs : _) (a : _) (r r' : _) (s s' : _) → substitute.Post κs a r s → substitute.Post κs a r' s' → r ≡ r'
-substitute-has-one-answer κs a r r' s s' p q = p ∙ sym q
+pub substitute_has_one_answer : (κs : _) (a : _) (r r' : _) (s s' : _) → substitute.Post κs a r s → substitute.Post κs a r' s' → r ≡ r'
+substitute_has_one_answer κs a r r' s s' p q = p ∙ sym q
 
-pub substitute-back-has-one-answer : (κs : _) (a : _) (r r' : _) (s s' : _) → substitute_back.Post κs a r s → substitute_back.Post κs a r' s' → r ≡ r'
-substitute-back-has-one-answer κs a r r' s s' p q = p ∙ sym q
+pub substitute_back_has_one_answer : (κs : _) (a : _) (r r' : _) (s s' : _) → substitute_back.Post κs a r s → substitute_back.Post κs a r' s' → r ≡ r'
+substitute_back_has_one_answer κs a r r' s s' p q = p ∙ sym q
 
-pub mix-has-one-answer : (κs : _) (a : _) (r r' : _) (s s' : _) → mix.Post κs a r s → mix.Post κs a r' s' → r ≡ r'
-mix-has-one-answer κs a r r' s s' p q = p ∙ sym q
+pub mix_has_one_answer : (κs : _) (a : _) (r r' : _) (s s' : _) → mix.Post κs a r s → mix.Post κs a r' s' → r ≡ r'
+mix_has_one_answer κs a r r' s s' p q = p ∙ sym q
 
-pub mix-back-has-one-answer : (κs : _) (a : _) (r r' : _) (s s' : _) → mix_back.Post κs a r s → mix_back.Post κs a r' s' → r ≡ r'
-mix-back-has-one-answer κs a r r' s s' p q = p ∙ sym q
+pub mix_back_has_one_answer : (κs : _) (a : _) (r r' : _) (s s' : _) → mix_back.Post κs a r s → mix_back.Post κs a r' s' → r ≡ r'
+mix_back_has_one_answer κs a r r' s s' p q = p ∙ sym q
 
-pub round-has-one-answer : (κs : _) (a : _) (r r' : _) (s s' : _) → round.Post κs a r s → round.Post κs a r' s' → r ≡ r'
-round-has-one-answer κs a r r' s s' p q = p ∙ sym q
+pub round_has_one_answer : (κs : _) (a : _) (r r' : _) (s s' : _) → round.Post κs a r s → round.Post κs a r' s' → r ≡ r'
+round_has_one_answer κs a r r' s s' p q = p ∙ sym q
 
-pub round-back-has-one-answer : (κs : _) (a : _) (r r' : _) (s s' : _) → round_back.Post κs a r s → round_back.Post κs a r' s' → r ≡ r'
-round-back-has-one-answer κs a r r' s s' p q = p ∙ sym q
+pub round_back_has_one_answer : (κs : _) (a : _) (r r' : _) (s s' : _) → round_back.Post κs a r s → round_back.Post κs a r' s' → r ≡ r'
+round_back_has_one_answer κs a r r' s s' p q = p ∙ sym q
 
-pub two-rounds-has-one-answer : (κs : _) (a : _) (r r' : _) (s s' : _) → two_rounds.Post κs a r s → two_rounds.Post κs a r' s' → r ≡ r'
-two-rounds-has-one-answer κs a r r' s s' p q = p ∙ sym q
+pub two_rounds_has_one_answer : (κs : _) (a : _) (r r' : _) (s s' : _) → two_rounds.Post κs a r s → two_rounds.Post κs a r' s' → r ≡ r'
+two_rounds_has_one_answer κs a r r' s s' p q = p ∙ sym q
 
-pub two-rounds-back-has-one-answer : (κs : _) (a : _) (r r' : _) (s s' : _) → two_rounds_back.Post κs a r s → two_rounds_back.Post κs a r' s' → r ≡ r'
-two-rounds-back-has-one-answer κs a r r' s s' p q = p ∙ sym q
+pub two_rounds_back_has_one_answer : (κs : _) (a : _) (r r' : _) (s s' : _) → two_rounds_back.Post κs a r s → two_rounds_back.Post κs a r' s' → r ≡ r'
+two_rounds_back_has_one_answer κs a r r' s s' p q = p ∙ sym q
 
-pub row-tables-has-one-answer : (κs : _) (a : _) (r r' : _) (s s' : _) → row_tables.Post κs a r s → row_tables.Post κs a r' s' → r ≡ r'
-row-tables-has-one-answer κs a r r' s s' p q = p ∙ sym q
+pub row_tables_has_one_answer : (κs : _) (a : _) (r r' : _) (s s' : _) → row_tables.Post κs a r s → row_tables.Post κs a r' s' → r ≡ r'
+row_tables_has_one_answer κs a r r' s s' p q = p ∙ sym q
 
-pub round-by-tables-has-one-answer : (κs : _) (a : _) (r r' : _) (s s' : _) → round_by_tables.Post κs a r s → round_by_tables.Post κs a r' s' → r ≡ r'
-round-by-tables-has-one-answer κs a r r' s s' p q = p ∙ sym q
+pub round_by_tables_has_one_answer : (κs : _) (a : _) (r r' : _) (s s' : _) → round_by_tables.Post κs a r s → round_by_tables.Post κs a r' s' → r ≡ r'
+round_by_tables_has_one_answer κs a r r' s s' p q = p ∙ sym q
 
-pub mix-numbers-has-one-answer : (κs : _) (a : _) (r r' : _) (s s' : _) → mix_numbers.Post κs a r s → mix_numbers.Post κs a r' s' → r ≡ r'
-mix-numbers-has-one-answer κs a r r' s s' p q = p ∙ sym q
+pub mix_numbers_has_one_answer : (κs : _) (a : _) (r r' : _) (s s' : _) → mix_numbers.Post κs a r s → mix_numbers.Post κs a r' s' → r ≡ r'
+mix_numbers_has_one_answer κs a r r' s s' p q = p ∙ sym q

@@ -16,11 +16,11 @@ use lib.ListN.{length, get_or, set, length-set}
 use lib.Seq.{get_or-set_same, get_or-set_other}
 use Rattle.aes_round.specs.declared.rows.RowTables.{RowTables}
 use Rattle.aes_round.specs.Array.{array, column, entry}
-use Rattle.aes_round.specs.ByTables.{mixNumbers, rowTable, rowTables, tableRound}
-use Rattle.aes_round.specs.Bytes.{Bytes, tab, xor, xorBytes}
-use Rattle.aes_round.specs.Mixing.{backward, forward, mixColumn}
+use Rattle.aes_round.specs.ByTables.{mix_numbers, row_table, row_tables, table_round}
+use Rattle.aes_round.specs.Bytes.{Bytes, tab, xor, xor_bytes}
+use Rattle.aes_round.specs.Mixing.{backward, forward, mix_column}
 use Rattle.aes_round.specs.Numbers.{byte_of, bytes_of, number, numbers}
-use Rattle.aes_round.specs.Rounds.{aesRound, aesRoundBack, mixColumns, shiftRows, shiftRowsBack}
+use Rattle.aes_round.specs.Rounds.{aes_round, aes_round_back, mix_columns, shift_rows, shift_rows_back}
 use Rattle.aes_round.proofs.Laws.Array as arrays
 use Rattle.aes_round.proofs.Laws.ByTables as by-tables
 use Rattle.aes_round.proofs.Laws.Bytes as bytes
@@ -41,31 +41,31 @@ below = tests.below
 pub agree : (f g : ℕ → ℕ) (n : ℕ) → T (every (λ k. eqb (f k) (g k)) n) → (k : ℕ) → k < n → f k ≡ g k
 agree = tests.agree
 
-pub lt-or-le : (k n : ℕ) → (k < n) ⊎ (n ≤ k)
-lt-or-le = bytes.lt-or-le
+pub lt_or_le : (k n : ℕ) → (k < n) ⊎ (n ≤ k)
+lt_or_le = bytes.lt_or_le
 
 -- ---- a list by its elements
 
-pub tab-none : (f : ℕ → ℕ) → tab 0 f ≡ []
+pub tab_none : (f : ℕ → ℕ) → tab 0 f ≡ []
 unfolding tab
-tab-none f = refl
+tab_none f = refl
 
 pub length-tab : (n : ℕ) (f : ℕ → ℕ) → length (tab n f) ≡ n
 length-tab = bytes.length-tab
 
-pub getD-tab : (n : ℕ) (f : ℕ → ℕ) (k : ℕ) → k < n → get_or (tab n f) k 0 ≡ f k
-getD-tab = bytes.getD-tab
+pub get_or-tab : (n : ℕ) (f : ℕ → ℕ) (k : ℕ) → k < n → get_or (tab n f) k 0 ≡ f k
+get_or-tab = bytes.get_or-tab
 
 -- two lists of n numbers are equal by their elements
-pub same-list : (n : ℕ) (l m : List ℕ) → length l ≡ n → length m ≡ n → ((k : ℕ) → k < n → get_or l k 0 ≡ get_or m k 0) → l ≡ m
-same-list = bytes.same-list
+pub same_list : (n : ℕ) (l m : List ℕ) → length l ≡ n → length m ≡ n → ((k : ℕ) → k < n → get_or l k 0 ≡ get_or m k 0) → l ≡ m
+same_list = bytes.same_list
 
 -- a list of n numbers is the tab of them
-pub is-tab : (n : ℕ) (l : List ℕ) (f : ℕ → ℕ) → length l ≡ n → ((k : ℕ) → k < n → get_or l k 0 ≡ f k) → l ≡ tab n f
-is-tab = bytes.is-tab
+pub is_tab : (n : ℕ) (l : List ℕ) (f : ℕ → ℕ) → length l ≡ n → ((k : ℕ) → k < n → get_or l k 0 ≡ f k) → l ≡ tab n f
+is_tab = bytes.is_tab
 
-pub tab-ext : (n : ℕ) (f g : ℕ → ℕ) → ((k : ℕ) → k < n → f k ≡ g k) → tab n f ≡ tab n g
-tab-ext = bytes.tab-ext
+pub tab_ext : (n : ℕ) (f g : ℕ → ℕ) → ((k : ℕ) → k < n → f k ≡ g k) → tab n f ≡ tab n g
+tab_ext = bytes.tab_ext
 
 -- ---- lists of n bytes
 
@@ -73,12 +73,12 @@ tab-ext = bytes.tab-ext
 pub bytes_below : (n : ℕ) (l : List ℕ) → length l ≡ n → ((k : ℕ) → k < n → get_or l k 0 < 256) → Bytes n l
 bytes_below = bytes.bytes_below
 
-pub tab-bytes : (n : ℕ) (f : ℕ → ℕ) → ((k : ℕ) → k < n → f k < 256) → Bytes n (tab n f)
-tab-bytes = bytes.tab-bytes
+pub tab_bytes : (n : ℕ) (f : ℕ → ℕ) → ((k : ℕ) → k < n → f k < 256) → Bytes n (tab n f)
+tab_bytes = bytes.tab_bytes
 
 -- a list that is written out, by one test
-pub bytes-are : (n : ℕ) (l : List ℕ) → length l ≡ n → T (every (λ k. ltb (get_or l k 0) 256) n) → Bytes n l
-bytes-are = bytes.bytes-are
+pub bytes_are : (n : ℕ) (l : List ℕ) → length l ≡ n → T (every (λ k. ltb (get_or l k 0) 256) n) → Bytes n l
+bytes_are = bytes.bytes_are
 
 -- an array of the code, of which each element fits a byte
 pub bytes_fit : (n : ℕ) (l : List ℕ) → length l ≡ n → ((k : ℕ) → Fits w8 (get_or l k 0)) → Bytes n l
@@ -108,14 +108,14 @@ module _ (n : ℕ) (f : ℕ → ℕ) (l : List ℕ) where
     rest = λ k le. get_or-set_other r i k v 0 (λ q. omega arith) ∙ F.rest k (omega arith);
   }
 
-  pub fill-all : (i : ℕ) (r : List ℕ) → Filled n f l i r → n ≤ i → r ≡ tab n f
-  fill-all i r F h = is-tab n r f F.long (λ k lt. F.done k (omega arith))
+  pub fill_all : (i : ℕ) (r : List ℕ) → Filled n f l i r → n ≤ i → r ≡ tab n f
+  fill_all i r F h = is_tab n r f F.long (λ k lt. F.done k (omega arith))
 
 -- ---- xor, of numbers and of lists of n bytes
 
 -- what the code's `^` computes
-pub code-xor : (a b : ℕ) → bit_xor a b ≡ xor a b
-code-xor = sums.code-xor
+pub code_xor : (a b : ℕ) → bit_xor a b ≡ xor a b
+code_xor = sums.code_xor
 
 pub xor_assoc : (a b c : ℕ) → xor (xor a b) c ≡ xor a (xor b c)
 xor_assoc = sums.xor_assoc
@@ -130,196 +130,196 @@ pub xor_zero_r : (a : ℕ) → xor a 0 ≡ a
 xor_zero_r = sums.xor_zero_r
 
 -- what is added twice is gone
-pub xor-twice : (a k : ℕ) → xor (xor a k) k ≡ a
-xor-twice = sums.xor-twice
+pub xor_twice : (a k : ℕ) → xor (xor a k) k ≡ a
+xor_twice = sums.xor_twice
 
 -- the middle two of four change places
-pub xor-swap : (a b c d : ℕ) → xor (xor a b) (xor c d) ≡ xor (xor a c) (xor b d)
-xor-swap = sums.xor-swap
+pub xor_swap : (a b c d : ℕ) → xor (xor a b) (xor c d) ≡ xor (xor a c) (xor b d)
+xor_swap = sums.xor_swap
 
-pub xor-tab : (n : ℕ) (f g : ℕ → ℕ) → xorBytes n (tab n f) (tab n g) ≡ tab n (λ k. xor (f k) (g k))
-xor-tab = sums.xor-tab
+pub xor_tab : (n : ℕ) (f g : ℕ → ℕ) → xor_bytes n (tab n f) (tab n g) ≡ tab n (λ k. xor (f k) (g k))
+xor_tab = sums.xor_tab
 
 module _ (n : ℕ) (a b : List ℕ) where
-  pub xor-is-tab : tab n (λ k. xor (get_or a k 0) (get_or b k 0)) ≡ xorBytes n a b
-  xor-is-tab = sums.xor-is-tab n a b
+  pub xor_is_tab : tab n (λ k. xor (get_or a k 0) (get_or b k 0)) ≡ xor_bytes n a b
+  xor_is_tab = sums.xor_is_tab n a b
 
-  pub length-xor : length (xorBytes n a b) ≡ n
+  pub length-xor : length (xor_bytes n a b) ≡ n
   length-xor = sums.length-xor n a b
 
-  pub getD-xor : (k : ℕ) → k < n → get_or (xorBytes n a b) k 0 ≡ xor (get_or a k 0) (get_or b k 0)
-  getD-xor = sums.getD-xor n a b
+  pub get_or-xor : (k : ℕ) → k < n → get_or (xor_bytes n a b) k 0 ≡ xor (get_or a k 0) (get_or b k 0)
+  get_or-xor = sums.get_or-xor n a b
 
 -- ---- the 4 by 4 array of entries of w bytes, by its entries
 
 module _ (w : ℕ) where
-  pub entry-is : (s : List ℕ) (e b : ℕ) → entry w s e b ≡ get_or s (w * e + b) 0
-  entry-is = arrays.entry-is w
+  pub entry_is : (s : List ℕ) (e b : ℕ) → entry w s e b ≡ get_or s (w * e + b) 0
+  entry_is = arrays.entry_is w
 
-  pub entry-array : (f : ℕ → ℕ → ℕ) (e b : ℕ) → e < 16 → b < w → entry w (array w f) e b ≡ f e b
-  entry-array = arrays.entry-array w
+  pub entry_array : (f : ℕ → ℕ → ℕ) (e b : ℕ) → e < 16 → b < w → entry w (array w f) e b ≡ f e b
+  entry_array = arrays.entry_array w
 
-  pub entry-byte : (s : List ℕ) → Bytes (16 * w) s → (e b : ℕ) → entry w s e b < 256
-  entry-byte = arrays.entry-byte w
+  pub entry_byte : (s : List ℕ) → Bytes (16 * w) s → (e b : ℕ) → entry w s e b < 256
+  entry_byte = arrays.entry_byte w
 
   -- an array is known by its entries
-  pub is-array : (l : List ℕ) (f : ℕ → ℕ → ℕ) → length l ≡ 16 * w → ((e b : ℕ) → e < 16 → b < w → entry w l e b ≡ f e b) → l ≡ array w f
-  is-array = arrays.is-array w
+  pub is_array : (l : List ℕ) (f : ℕ → ℕ → ℕ) → length l ≡ 16 * w → ((e b : ℕ) → e < 16 → b < w → entry w l e b ≡ f e b) → l ≡ array w f
+  is_array = arrays.is_array w
 
   -- bytes in a row, as an array
-  pub tab-array : (f : ℕ → ℕ) (g : ℕ → ℕ → ℕ) → ((e b : ℕ) → e < 16 → b < w → f (w * e + b) ≡ g e b) → tab (16 * w) f ≡ array w g
-  tab-array = arrays.tab-array w
+  pub tab_array : (f : ℕ → ℕ) (g : ℕ → ℕ → ℕ) → ((e b : ℕ) → e < 16 → b < w → f (w * e + b) ≡ g e b) → tab (16 * w) f ≡ array w g
+  tab_array = arrays.tab_array w
 
-  pub array-ext : (f g : ℕ → ℕ → ℕ) → ((e b : ℕ) → e < 16 → b < w → f e b ≡ g e b) → array w f ≡ array w g
-  array-ext = arrays.array-ext w
+  pub array_ext : (f g : ℕ → ℕ → ℕ) → ((e b : ℕ) → e < 16 → b < w → f e b ≡ g e b) → array w f ≡ array w g
+  array_ext = arrays.array_ext w
 
-  pub array-bytes : (f : ℕ → ℕ → ℕ) → ((e b : ℕ) → e < 16 → b < w → f e b < 256) → Bytes (16 * w) (array w f)
-  array-bytes = arrays.array-bytes w
+  pub array_bytes : (f : ℕ → ℕ → ℕ) → ((e b : ℕ) → e < 16 → b < w → f e b < 256) → Bytes (16 * w) (array w f)
+  array_bytes = arrays.array_bytes w
 
   pub length-column : (s : List ℕ) (c b : ℕ) → length (column w s c b) ≡ 4
   length-column = arrays.length-column w
 
-  pub getD-column : (s : List ℕ) (c b i : ℕ) → i < 4 → get_or (column w s c b) i 0 ≡ entry w s (4 * c + i) b
-  getD-column = arrays.getD-column w
+  pub get_or-column : (s : List ℕ) (c b i : ℕ) → i < 4 → get_or (column w s c b) i 0 ≡ entry w s (4 * c + i) b
+  get_or-column = arrays.get_or-column w
 
 -- ---- row shift and column mix, of entries of w bytes
 
 module _ (w : ℕ) where
   -- entry e comes from 5 e (mod 16), and on the way back from 13 e
-  pub entry-shift : (s : List ℕ) (e b : ℕ) → e < 16 → b < w → entry w (shiftRows w s) e b ≡ entry w s (5 * e % 16) b
-  entry-shift = rounds.entry-shift w
+  pub entry_shift : (s : List ℕ) (e b : ℕ) → e < 16 → b < w → entry w (shift_rows w s) e b ≡ entry w s (5 * e % 16) b
+  entry_shift = rounds.entry_shift w
 
-  pub entry-shift-back : (s : List ℕ) (e b : ℕ) → e < 16 → b < w → entry w (shiftRowsBack w s) e b ≡ entry w s (13 * e % 16) b
-  entry-shift-back = rounds.entry-shift-back w
+  pub entry_shift_back : (s : List ℕ) (e b : ℕ) → e < 16 → b < w → entry w (shift_rows_back w s) e b ≡ entry w s (13 * e % 16) b
+  entry_shift_back = rounds.entry_shift_back w
 
-  pub length_shift : (s : List ℕ) → length (shiftRows w s) ≡ 16 * w
+  pub length_shift : (s : List ℕ) → length (shift_rows w s) ≡ 16 * w
   length_shift = rounds.length_shift w
 
-  pub length-shift-back : (s : List ℕ) → length (shiftRowsBack w s) ≡ 16 * w
-  length-shift-back = rounds.length-shift-back w
+  pub length_shift_back : (s : List ℕ) → length (shift_rows_back w s) ≡ 16 * w
+  length_shift_back = rounds.length_shift_back w
 
-  pub shift-bytes : (s : List ℕ) → Bytes (16 * w) s → Bytes (16 * w) (shiftRows w s)
-  shift-bytes = rounds.shift-bytes w
+  pub shift_bytes : (s : List ℕ) → Bytes (16 * w) s → Bytes (16 * w) (shift_rows w s)
+  shift_bytes = rounds.shift_bytes w
 
-  pub shift-back-bytes : (s : List ℕ) → Bytes (16 * w) s → Bytes (16 * w) (shiftRowsBack w s)
-  shift-back-bytes = rounds.shift-back-bytes w
+  pub shift_back_bytes : (s : List ℕ) → Bytes (16 * w) s → Bytes (16 * w) (shift_rows_back w s)
+  shift_back_bytes = rounds.shift_back_bytes w
 
-  pub shift-undone : (s : List ℕ) → length s ≡ 16 * w → shiftRowsBack w (shiftRows w s) ≡ s
-  shift-undone = rounds.shift-undone w
+  pub shift_undone : (s : List ℕ) → length s ≡ 16 * w → shift_rows_back w (shift_rows w s) ≡ s
+  shift_undone = rounds.shift_undone w
 
-  pub shift-back-undone : (s : List ℕ) → length s ≡ 16 * w → shiftRows w (shiftRowsBack w s) ≡ s
-  shift-back-undone = rounds.shift-back-undone w
+  pub shift_back_undone : (s : List ℕ) → length s ≡ 16 * w → shift_rows w (shift_rows_back w s) ≡ s
+  shift_back_undone = rounds.shift_back_undone w
 
-  pub shift-xor : (s t : List ℕ) → shiftRows w (xorBytes (16 * w) s t) ≡ xorBytes (16 * w) (shiftRows w s) (shiftRows w t)
-  shift-xor = rounds.shift-xor w
+  pub shift_xor : (s t : List ℕ) → shift_rows w (xor_bytes (16 * w) s t) ≡ xor_bytes (16 * w) (shift_rows w s) (shift_rows w t)
+  shift_xor = rounds.shift_xor w
 
-  pub entry-mix : (m s : List ℕ) (e b : ℕ) → e < 16 → b < w → entry w (mixColumns w m s) e b ≡ get_or (mixColumn m (column w s (e / 4) b)) (e % 4) 0
-  entry-mix = rounds.entry-mix w
+  pub entry_mix : (m s : List ℕ) (e b : ℕ) → e < 16 → b < w → entry w (mix_columns w m s) e b ≡ get_or (mix_column m (column w s (e / 4) b)) (e % 4) 0
+  entry_mix = rounds.entry_mix w
 
-  pub length-mix-columns : (m s : List ℕ) → length (mixColumns w m s) ≡ 16 * w
-  length-mix-columns = rounds.length-mix-columns w
+  pub length_mix_columns : (m s : List ℕ) → length (mix_columns w m s) ≡ 16 * w
+  length_mix_columns = rounds.length_mix_columns w
 
-  pub mix-columns-bytes : (m s : List ℕ) → Bytes 16 m → Bytes (16 * w) s → Bytes (16 * w) (mixColumns w m s)
-  mix-columns-bytes = rounds.mix-columns-bytes w
+  pub mix_columns_bytes : (m s : List ℕ) → Bytes 16 m → Bytes (16 * w) s → Bytes (16 * w) (mix_columns w m s)
+  mix_columns_bytes = rounds.mix_columns_bytes w
 
-  pub mix-columns-undone : (s : List ℕ) → Bytes (16 * w) s → mixColumns w backward (mixColumns w forward s) ≡ s
-  mix-columns-undone = rounds.mix-columns-undone w
+  pub mix_columns_undone : (s : List ℕ) → Bytes (16 * w) s → mix_columns w backward (mix_columns w forward s) ≡ s
+  mix_columns_undone = rounds.mix_columns_undone w
 
-  pub mix-columns-back-undone : (s : List ℕ) → Bytes (16 * w) s → mixColumns w forward (mixColumns w backward s) ≡ s
-  mix-columns-back-undone = rounds.mix-columns-back-undone w
+  pub mix_columns_back_undone : (s : List ℕ) → Bytes (16 * w) s → mix_columns w forward (mix_columns w backward s) ≡ s
+  mix_columns_back_undone = rounds.mix_columns_back_undone w
 
-  pub mix-columns-xor : (m s t : List ℕ) → mixColumns w m (xorBytes (16 * w) s t) ≡ xorBytes (16 * w) (mixColumns w m s) (mixColumns w m t)
-  mix-columns-xor = rounds.mix-columns-xor w
+  pub mix_columns_xor : (m s t : List ℕ) → mix_columns w m (xor_bytes (16 * w) s t) ≡ xor_bytes (16 * w) (mix_columns w m s) (mix_columns w m t)
+  mix_columns_xor = rounds.mix_columns_xor w
 
-pub forward-bytes : Bytes 16 forward
-forward-bytes = mixing.forward-bytes
+pub forward_bytes : Bytes 16 forward
+forward_bytes = mixing.forward_bytes
 
-pub backward-bytes : Bytes 16 backward
-backward-bytes = mixing.backward-bytes
+pub backward_bytes : Bytes 16 backward
+backward_bytes = mixing.backward_bytes
 
 -- ---- the round; that each way undoes the other is in Theorems.antt
 
-pub length-round : (s k : List ℕ) → length (aesRound s k) ≡ 16
-length-round = rounds.length-round
+pub length_round : (s k : List ℕ) → length (aes_round s k) ≡ 16
+length_round = rounds.length_round
 
-pub length-round-back : (s k : List ℕ) → length (aesRoundBack s k) ≡ 16
-length-round-back = rounds.length-round-back
+pub length_round_back : (s k : List ℕ) → length (aes_round_back s k) ≡ 16
+length_round_back = rounds.length_round_back
 
-pub round-bytes : (s k : List ℕ) → Bytes 16 s → Bytes 16 k → Bytes 16 (aesRound s k)
-round-bytes = rounds.round-bytes
+pub round_bytes : (s k : List ℕ) → Bytes 16 s → Bytes 16 k → Bytes 16 (aes_round s k)
+round_bytes = rounds.round_bytes
 
-pub round-back-bytes : (s k : List ℕ) → Bytes 16 s → Bytes 16 k → Bytes 16 (aesRoundBack s k)
-round-back-bytes = rounds.round-back-bytes
+pub round_back_bytes : (s k : List ℕ) → Bytes 16 s → Bytes 16 k → Bytes 16 (aes_round_back s k)
+round_back_bytes = rounds.round_back_bytes
 
 -- ---- four bytes as a number of 32 bits, the least significant first
 
-pub byte-is : (x p : ℕ) → byte_of x p ≡ x / 256 ^ p % 256
-byte-is = words.byte-is
+pub byte_is : (x p : ℕ) → byte_of x p ≡ x / 256 ^ p % 256
+byte_is = words.byte_is
 
 -- the lowest one in the code's form
-pub byte-0 : (x : ℕ) → x % 0x100 ≡ byte_of x 0
-byte-0 = words.byte-0
+pub byte_0 : (x : ℕ) → x % 0x100 ≡ byte_of x 0
+byte_0 = words.byte_0
 
-pub number-of : (f : ℕ → ℕ) → f 0 + 0x100 * f 1 + 0x10000 * f 2 + 0x1000000 * f 3 ≡ number f
-number-of = words.number-of
+pub number_of_lem : (f : ℕ → ℕ) → f 0 + 0x100 * f 1 + 0x10000 * f 2 + 0x1000000 * f 3 ≡ number f
+number_of_lem = words.number_of_lem
 
-pub number-ext : (f g : ℕ → ℕ) → ((p : ℕ) → p < 4 → f p ≡ g p) → number f ≡ number g
-number-ext = words.number-ext
+pub number_ext : (f g : ℕ → ℕ) → ((p : ℕ) → p < 4 → f p ≡ g p) → number f ≡ number g
+number_ext = words.number_ext
 
 -- the number of a number's bytes has its lower 32 bits
-pub number-low : (x : ℕ) → number (byte_of x) ≡ x % 2 ^ 32
-number-low = words.number-low
+pub number_low : (x : ℕ) → number (byte_of x) ≡ x % 2 ^ 32
+number_low = words.number_low
 
 -- lists of n numbers, and of their 4 n bytes
 module _ (n : ℕ) where
-  pub getD-numbers : (s : List ℕ) (k : ℕ) → k < n → get_or (numbers n s) k 0 ≡ number (λ p. get_or s (4 * k + p) 0)
-  getD-numbers = words.getD-numbers n
+  pub get_or-numbers : (s : List ℕ) (k : ℕ) → k < n → get_or (numbers n s) k 0 ≡ number (λ p. get_or s (4 * k + p) 0)
+  get_or-numbers = words.get_or-numbers n
 
-  pub are-numbers : (s l : List ℕ) → length l ≡ n → ((k : ℕ) → k < n → get_or l k 0 ≡ number (λ p. get_or s (4 * k + p) 0)) → l ≡ numbers n s
-  are-numbers = words.are-numbers n
+  pub are_numbers : (s l : List ℕ) → length l ≡ n → ((k : ℕ) → k < n → get_or l k 0 ≡ number (λ p. get_or s (4 * k + p) 0)) → l ≡ numbers n s
+  are_numbers = words.are_numbers n
 
-  pub byte-of-numbers : (l : List ℕ) (k : ℕ) → k < 4 * n → get_or (bytes_of n l) k 0 ≡ byte_of (get_or l (k / 4) 0) (k % 4)
-  byte-of-numbers = words.byte-of-numbers n
+  pub byte_of_numbers : (l : List ℕ) (k : ℕ) → k < 4 * n → get_or (bytes_of n l) k 0 ≡ byte_of (get_or l (k / 4) 0) (k % 4)
+  byte_of_numbers = words.byte_of_numbers n
 
-  pub are-bytes-of : (l s : List ℕ) → length s ≡ 4 * n → ((k : ℕ) → k < 4 * n → get_or s k 0 ≡ byte_of (get_or l (k / 4) 0) (k % 4)) → s ≡ bytes_of n l
-  are-bytes-of = words.are-bytes-of n
+  pub are_bytes_of : (l s : List ℕ) → length s ≡ 4 * n → ((k : ℕ) → k < 4 * n → get_or s k 0 ≡ byte_of (get_or l (k / 4) 0) (k % 4)) → s ≡ bytes_of n l
+  are_bytes_of = words.are_bytes_of n
 
-  pub bytes-of-bytes : (l : List ℕ) → Bytes (4 * n) (bytes_of n l)
-  bytes-of-bytes = words.bytes-of-bytes n
+  pub bytes_of_bytes : (l : List ℕ) → Bytes (4 * n) (bytes_of n l)
+  bytes_of_bytes = words.bytes_of_bytes n
 
   -- bytes as numbers and back, and numbers as bytes and back
-  pub bytes-of-numbers : (s : List ℕ) → Bytes (4 * n) s → bytes_of n (numbers n s) ≡ s
-  bytes-of-numbers = words.bytes-of-numbers n
+  pub bytes_of_numbers : (s : List ℕ) → Bytes (4 * n) s → bytes_of n (numbers n s) ≡ s
+  bytes_of_numbers = words.bytes_of_numbers n
 
-  pub numbers-of-bytes : (l : List ℕ) → length l ≡ n → ((k : ℕ) → get_or l k 0 < 2 ^ 32) → numbers n (bytes_of n l) ≡ l
-  numbers-of-bytes = words.numbers-of-bytes n
+  pub numbers_of_bytes : (l : List ℕ) → length l ≡ n → ((k : ℕ) → get_or l k 0 < 2 ^ 32) → numbers n (bytes_of n l) ≡ l
+  numbers_of_bytes = words.numbers_of_bytes n
 
 -- sixteen bytes, written out
-pub four-numbers : (s : List ℕ)
+pub four_numbers : (s : List ℕ)
     → number (λ p. get_or s (0 + p) 0) ∷ number (λ p. get_or s (4 + p) 0) ∷ number (λ p. get_or s (8 + p) 0) ∷ number (λ p. get_or s (12 + p) 0) ∷ [] ≡ numbers 4 s
-four-numbers = words.four-numbers
+four_numbers = words.four_numbers
 
 -- ---- the path by tables
 
 -- each of the four tables, by its row
-module _ (r : RowTables) (e : r ≡ rowTables) where
-  pub row-0 : r.row_0 ≡ rowTable 0
-  row-0 = by-tables.row-0 r e
+module _ (r : RowTables) (e : r ≡ row_tables) where
+  pub row_0 : r.row_0 ≡ row_table 0
+  row_0 = by-tables.row_0 r e
 
-  pub row-1 : r.row_1 ≡ rowTable 1
-  row-1 = by-tables.row-1 r e
+  pub row_1 : r.row_1 ≡ row_table 1
+  row_1 = by-tables.row_1 r e
 
-  pub row-2 : r.row_2 ≡ rowTable 2
-  row-2 = by-tables.row-2 r e
+  pub row_2 : r.row_2 ≡ row_table 2
+  row_2 = by-tables.row_2 r e
 
-  pub row-3 : r.row_3 ≡ rowTable 3
-  row-3 = by-tables.row-3 r e
+  pub row_3 : r.row_3 ≡ row_table 3
+  row_3 = by-tables.row_3 r e
 
 -- a round by the four tables, on the numbers of a word and of a key, gives the numbers of the round
-pub table-round : (s k : List ℕ) → Bytes 16 s → Bytes 16 k
-    → tableRound (rowTable 0) (rowTable 1) (rowTable 2) (rowTable 3) (numbers 4 s) (numbers 4 k) ≡ numbers 4 (aesRound s k)
-table-round = by-tables.table-round
+pub table_round_lem : (s k : List ℕ) → Bytes 16 s → Bytes 16 k
+    → table_round (row_table 0) (row_table 1) (row_table 2) (row_table 3) (numbers 4 s) (numbers 4 k) ≡ numbers 4 (aes_round s k)
+table_round_lem = by-tables.table_round_lem
 
-pub getD-mix-numbers : (c : List ℕ) (i : ℕ) → i < 4
-    → get_or (mixNumbers c) i 0 ≡ number (λ p. get_or (mixColumn forward (tab 4 (λ k. byte_of (get_or c k 0) p))) i 0)
-getD-mix-numbers = words.getD-mix-numbers
+pub get_or_mix_numbers : (c : List ℕ) (i : ℕ) → i < 4
+    → get_or (mix_numbers c) i 0 ≡ number (λ p. get_or (mix_column forward (tab 4 (λ k. byte_of (get_or c k 0) p))) i 0)
+get_or_mix_numbers = words.get_or_mix_numbers

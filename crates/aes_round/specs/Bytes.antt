@@ -3,13 +3,13 @@ use Rattle.std.specs.Prelude.{◌≡◌, List, [], ◌∷◌, ℕ, zero, suc, �
 use Rattle.std.specs.Int.Bits.{bit_xor}
 
 -- f i, f (i + 1), ..: n of them
-abbrev pub tabFrom : ℕ → ℕ → (ℕ → ℕ) → List ℕ
-tabFrom i zero f = []
-tabFrom i (suc n) f = f i ∷ tabFrom (suc i) n f
+abbrev pub tab_from : ℕ → ℕ → (ℕ → ℕ) → List ℕ
+tab_from i zero f = []
+tab_from i (suc n) f = f i ∷ tab_from (suc i) n f
 
 -- f 0, f 1, .., f (n - 1)
 unfoldable pub tab : ℕ → (ℕ → ℕ) → List ℕ
-tab n f = tabFrom 0 n f
+tab n f = tab_from 0 n f
 
 -- l is a list of n bytes; `get_or l k 0` is 0 at each place past the end
 pub record Bytes (n : ℕ) (l : List ℕ) : Type 0 where
@@ -21,5 +21,5 @@ unfoldable pub xor : ℕ → ℕ → ℕ
 xor a b = bit_xor a b
 
 -- two lists of n bytes xored
-unfoldable pub xorBytes : ℕ → List ℕ → List ℕ → List ℕ
-xorBytes n a b = tab n (λ k. xor (get_or a k 0) (get_or b k 0))
+unfoldable pub xor_bytes : ℕ → List ℕ → List ℕ → List ℕ
+xor_bytes n a b = tab n (λ k. xor (get_or a k 0) (get_or b k 0))

@@ -16,5 +16,5 @@ unfoldable pub dot : ℕ → ℕ → ℕ → ℕ → List ℕ → ℕ
 dot p q r s c = xor (xor (mul p (get_or c 0 0)) (mul q (get_or c 1 0))) (xor (mul r (get_or c 2 0)) (mul s (get_or c 3 0)))
 
 -- the matrix m times the column c
-unfoldable pub mixColumn : List ℕ → List ℕ → List ℕ
-mixColumn m c = tab 4 (λ i. dot (get_or m (4 * i) 0) (get_or m (4 * i + 1) 0) (get_or m (4 * i + 2) 0) (get_or m (4 * i + 3) 0) c)
+unfoldable pub mix_column : List ℕ → List ℕ → List ℕ
+mix_column m c = tab 4 (λ i. dot (get_or m (4 * i) 0) (get_or m (4 * i + 1) 0) (get_or m (4 * i + 2) 0) (get_or m (4 * i + 3) 0) c)

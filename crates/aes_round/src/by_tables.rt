@@ -1,6 +1,6 @@
 // One round of the AES on a word of four numbers, by four lent tables. With those of `row_tables` it is the round of FIPS 197.
 ghost use Rattle.std.specs.Prelude.{◌≡◌};
-ghost use Rattle.aes_round.specs.ByTables.{tableColumn, tableRound};
+ghost use Rattle.aes_round.specs.ByTables.{table_column, table_round};
 
 // A column: row 0 from the number a, row 1 from b, row 2 from c, row 3 from d.
 fn table_column(
@@ -13,7 +13,7 @@ fn table_column(
     c: u32,
     d: u32,
 ) -> u32
-    ensures { result ≡ tableColumn t.now u.now v.now w.now a b c d }
+    ensures { result ≡ table_column t.now u.now v.now w.now a b c d }
 {
     let p = t[(a % 0x100) as usize] ^ u[(b / 0x100 % 0x100) as usize];
     let q = v[(c / 0x1_0000 % 0x100) as usize] ^ w[(d / 0x100_0000 % 0x100) as usize];
@@ -29,7 +29,7 @@ pub fn round_by_tables(
     s: [u32; 4],
     k: [u32; 4],
 ) -> [u32; 4]
-    ensures { result ≡ tableRound t.now u.now v.now w.now s k }
+    ensures { result ≡ table_round t.now u.now v.now w.now s k }
 {
     [
         table_column(t, u, v, w, s[0], s[1], s[2], s[3]) ^ k[0],

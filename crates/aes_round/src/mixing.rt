@@ -1,6 +1,6 @@
 // The mix of a column of four bytes, and its way back.
 ghost use Rattle.std.specs.Prelude.{◌≡◌};
-ghost use Rattle.aes_round.specs.Mixing.{backward, dot, forward, mixColumn};
+ghost use Rattle.aes_round.specs.Mixing.{backward, dot, forward, mix_column};
 
 use super::field::times;
 
@@ -19,7 +19,7 @@ fn product(p: u8, q: u8, r: u8, s: u8, c: [u8; 4]) -> u8
 // The two name their own matrix and take its coefficients by literal index, so that they fold into the code. Over one function for both
 // matrices they don't, since the compiler does not inline it twice, and a digest takes ten times as long.
 pub fn mix(c: [u8; 4]) -> [u8; 4]
-    ensures { result ≡ mixColumn forward c }
+    ensures { result ≡ mix_column forward c }
 {
     let m = FORWARD;
     [
@@ -31,7 +31,7 @@ pub fn mix(c: [u8; 4]) -> [u8; 4]
 }
 
 pub fn mix_back(c: [u8; 4]) -> [u8; 4]
-    ensures { result ≡ mixColumn backward c }
+    ensures { result ≡ mix_column backward c }
 {
     let m = BACKWARD;
     [

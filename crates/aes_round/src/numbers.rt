@@ -1,6 +1,6 @@
 // Field arithmetic on the four bytes of a number at once.
 ghost use Rattle.std.specs.Prelude.{◌≡◌};
-ghost use Rattle.aes_round.specs.ByTables.{mixNumbers};
+ghost use Rattle.aes_round.specs.ByTables.{mix_numbers};
 ghost use Rattle.aes_round.specs.Field.{mul};
 ghost use Rattle.aes_round.specs.Numbers.{byte_of, number};
 
@@ -18,7 +18,7 @@ fn double_each(x: u32) -> u32
 // Four columns mixed at once: the bytes at the same place in the four numbers are a column. With the sum t of all four rows, 02 a + 03 b + c + d is
 // a + t + 02 (a + b).
 pub fn mix_numbers(c: [u32; 4]) -> [u32; 4]
-    ensures { result ≡ mixNumbers c }
+    ensures { result ≡ mix_numbers c }
 {
     let t = (c[0] ^ c[1]) ^ (c[2] ^ c[3]);
     [

@@ -2,8 +2,8 @@
 ghost use Rattle.std.specs.Prelude.{[], ◌∷◌, ◌≡◌, ◌+◌, ◌*◌, ◌<◌, get_or};
 ghost use Rattle.aes_round.specs.Bytes.{tab};
 ghost use Rattle.aes_round.specs.Mixing.{backward, forward};
-ghost use Rattle.aes_round.specs.Rounds.{addRoundKey, aesRound, aesRoundBack, mixColumns, shiftRows, shiftRowsBack};
-ghost use Rattle.aes_round.specs.Substitution.{Table, subByte, subByteBack};
+ghost use Rattle.aes_round.specs.Rounds.{add_round_key, aes_round, aes_round_back, mix_columns, shift_rows, shift_rows_back};
+ghost use Rattle.aes_round.specs.Substitution.{Table, sub_byte, sub_byte_back};
 
 use super::mixing::{mix, mix_back};
 use super::tables::{sub_back_table, sub_table};
@@ -21,7 +21,7 @@ fn look_up(table: &[u8; 256], s: [u8; 16]) -> [u8; 16]
 
 // Row i is turned by i places to the left: byte k comes from place 5 k (mod 16).
 fn shift_rows(s: [u8; 16]) -> [u8; 16]
-    ensures { result ≡ shiftRows 1 s }
+    ensures { result ≡ shift_rows 1 s }
 {
     let mut r = s;
     for k in 0..16 {
@@ -32,7 +32,7 @@ fn shift_rows(s: [u8; 16]) -> [u8; 16]
 
 // Row i is turned by i places to the right: byte k comes from place 13 k (mod 16).
 fn shift_rows_back(s: [u8; 16]) -> [u8; 16]
-    ensures { result ≡ shiftRowsBack 1 s }
+    ensures { result ≡ shift_rows_back 1 s }
 {
     let mut r = s;
     for k in 0..16 {
@@ -60,7 +60,7 @@ fn word_of(a: [u8; 4], b: [u8; 4], c: [u8; 4], d: [u8; 4]) -> [u8; 16]
 }
 
 fn mix_columns(s: [u8; 16]) -> [u8; 16]
-    ensures { result ≡ mixColumns 1 forward s }
+    ensures { result ≡ mix_columns 1 forward s }
 {
     word_of(
         mix(column(s, 0)),
@@ -71,7 +71,7 @@ fn mix_columns(s: [u8; 16]) -> [u8; 16]
 }
 
 fn mix_columns_back(s: [u8; 16]) -> [u8; 16]
-    ensures { result ≡ mixColumns 1 backward s }
+    ensures { result ≡ mix_columns 1 backward s }
 {
     word_of(
         mix_back(column(s, 0)),
@@ -82,7 +82,7 @@ fn mix_columns_back(s: [u8; 16]) -> [u8; 16]
 }
 
 fn add_round_key(s: [u8; 16], k: [u8; 16]) -> [u8; 16]
-    ensures { result ≡ addRoundKey s k }
+    ensures { result ≡ add_round_key s k }
 {
     let mut r = s;
     for i in 0..16 {
@@ -92,8 +92,8 @@ fn add_round_key(s: [u8; 16], k: [u8; 16]) -> [u8; 16]
 }
 
 fn round_by(table: &[u8; 256], s: [u8; 16], k: [u8; 16]) -> [u8; 16]
-    requires { Table subByte table.now }
-    ensures { result ≡ aesRound s k }
+    requires { Table sub_byte table.now }
+    ensures { result ≡ aes_round s k }
 {
     let substituted = look_up(table, s);
     let shifted = shift_rows(substituted);
@@ -103,8 +103,8 @@ fn round_by(table: &[u8; 256], s: [u8; 16], k: [u8; 16]) -> [u8; 16]
 }
 
 fn round_back_by(table: &[u8; 256], s: [u8; 16], k: [u8; 16]) -> [u8; 16]
-    requires { Table subByteBack table.now }
-    ensures { result ≡ aesRoundBack s k }
+    requires { Table sub_byte_back table.now }
+    ensures { result ≡ aes_round_back s k }
 {
     let unkeyed = add_round_key(s, k);
     let unmixed = mix_columns_back(unkeyed);
@@ -115,7 +115,7 @@ fn round_back_by(table: &[u8; 256], s: [u8; 16], k: [u8; 16]) -> [u8; 16]
 
 // One full round: SubBytes, ShiftRows, MixColumns, AddRoundKey.
 pub fn round(s: [u8; 16], k: [u8; 16]) -> [u8; 16]
-    ensures { result ≡ aesRound s k }
+    ensures { result ≡ aes_round s k }
 {
     let table = sub_table();
     round_by(&table, s, k)
@@ -123,7 +123,7 @@ pub fn round(s: [u8; 16], k: [u8; 16]) -> [u8; 16]
 
 // The word that `round` took to s under the same key.
 pub fn round_back(s: [u8; 16], k: [u8; 16]) -> [u8; 16]
-    ensures { result ≡ aesRoundBack s k }
+    ensures { result ≡ aes_round_back s k }
 {
     let table = sub_back_table();
     round_back_by(&table, s, k)
@@ -131,7 +131,7 @@ pub fn round_back(s: [u8; 16], k: [u8; 16]) -> [u8; 16]
 
 // A round with the key k, then one with the key l: the table is made once for both.
 pub fn two_rounds(s: [u8; 16], k: [u8; 16], l: [u8; 16]) -> [u8; 16]
-    ensures { result ≡ aesRound (aesRound s k) l }
+    ensures { result ≡ aes_round (aes_round s k) l }
 {
     let table = sub_table();
     let once = round_by(&table, s, k);
@@ -140,7 +140,7 @@ pub fn two_rounds(s: [u8; 16], k: [u8; 16], l: [u8; 16]) -> [u8; 16]
 
 // The word that `two_rounds` took to s under the same keys.
 pub fn two_rounds_back(s: [u8; 16], k: [u8; 16], l: [u8; 16]) -> [u8; 16]
-    ensures { result ≡ aesRoundBack (aesRoundBack s l) k }
+    ensures { result ≡ aes_round_back (aes_round_back s l) k }
 {
     let table = sub_back_table();
     let once = round_back_by(&table, s, l);

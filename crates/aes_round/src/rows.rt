@@ -1,7 +1,7 @@
 // The four tables of the path by tables, one for each row of a column: what a byte there adds to the column after SubBytes and MixColumns.
 ghost use Rattle.std.specs.Prelude.{◌≡◌};
-ghost use Rattle.aes_round.specs.ByTables.{Follows, rowTables};
-ghost use Rattle.aes_round.specs.Substitution.{Table, subByte};
+ghost use Rattle.aes_round.specs.ByTables.{Follows, row_tables};
+ghost use Rattle.aes_round.specs.Substitution.{Table, sub_byte};
 
 use super::row_table_0::ROW_0;
 use super::row_table_1::ROW_1;
@@ -25,7 +25,7 @@ struct WithSubstitution {
 }
 
 fn with_substitution() -> WithSubstitution
-    ensures rule { Table subByte result.sub }
+    ensures rule { Table sub_byte result.sub }
     ensures row_0 { Follows 0 result.sub result.rows.row_0 }
     ensures row_1 { Follows 1 result.sub result.rows.row_1 }
     ensures row_2 { Follows 2 result.sub result.rows.row_2 }
@@ -44,7 +44,7 @@ fn with_substitution() -> WithSubstitution
 
 // They take 4 KiB of stack and are built anew by each call: a caller takes them once for a run of rounds and lends them.
 pub fn row_tables() -> RowTables
-    ensures { result ≡ rowTables }
+    ensures { result ≡ row_tables }
 {
     let all = with_substitution();
     all.rows

@@ -1,7 +1,7 @@
 // The two tables of the substitution: entry x is what becomes of the byte x, forth and back.
 // Each mention of a constant array builds it on the stack, so a caller takes the table once for a word and lends it. The half of a pair
 // that a caller leaves is never built: the compiler drops it.
-ghost use Rattle.aes_round.specs.Substitution.{Table, Undo, subByte, subByteBack};
+ghost use Rattle.aes_round.specs.Substitution.{Table, Undo, sub_byte, sub_byte_back};
 
 use super::sub_back_table::SUB_BACK;
 use super::sub_table::SUB;
@@ -13,7 +13,7 @@ struct Pair {
 }
 
 fn both_tables() -> Pair
-    ensures rule { Table subByte result.forth }
+    ensures rule { Table sub_byte result.forth }
     ensures undo { Undo result.forth result.back }
 {
     Pair {
@@ -23,14 +23,14 @@ fn both_tables() -> Pair
 }
 
 pub(crate) fn sub_table() -> [u8; 256]
-    ensures { Table subByte result }
+    ensures { Table sub_byte result }
 {
     let tables = both_tables();
     tables.forth
 }
 
 pub(crate) fn sub_back_table() -> [u8; 256]
-    ensures { Table subByteBack result }
+    ensures { Table sub_byte_back result }
 {
     let tables = both_tables();
     tables.back

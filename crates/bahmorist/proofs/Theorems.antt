@@ -8,207 +8,207 @@ use borrow.Author.Tests.{ne_eqb}
 use lib.Dec.{ltb}
 use lib.ListN.{drop, length, take}
 use Rattle.echo.specs.declared.mode.Mode.{Mode}
-use Rattle.echo.specs.Families.{modeNumber, sizesFit}
-use Rattle.echo.specs.Refusals.{Lowest, ◌when◌, counterTooHigh, noSalt}
-use Rattle.echo.specs.Routines.{compressLeaves, compressRefusal, compressWideLeaves, compressWideRefusal}
-use Rattle.echo.specs.Session.{admitted, bitLimit, digestBitsLeaves, digestBitsRefusal, digestLeaves, digestRefusal, limit, otherSize, setBelow}
+use Rattle.echo.specs.Families.{mode_number, sizes_fit}
+use Rattle.echo.specs.Refusals.{Lowest, ◌when◌, counter_too_high, no_salt}
+use Rattle.echo.specs.Routines.{compress_leaves, compress_refusal, compress_wide_leaves, compress_wide_refusal}
+use Rattle.echo.specs.Session.{admitted, bit_limit, digest_bits_leaves, digest_bits_refusal, digest_leaves, digest_refusal, limit, other_size, set_below}
 use Rattle.echo.proofs.Theorems as echo
 use Rattle.steering.specs.Numbers.{AreBytes}
-use Rattle.steering.specs.Reading.{number_of, readAt}
-use Rattle.steering.specs.Writing.{writeBodyAnswer, writeBodyLeaves, writeBodyRefusal}
+use Rattle.steering.specs.Reading.{number_of, read_at}
+use Rattle.steering.specs.Writing.{write_body_answer, write_body_leaves, write_body_refusal}
 use Rattle.steering.specs.declared.reading.Reading.TheVariants.{Found}
 use Rattle.steering.specs.declared.records.Record.{Record}
-use Rattle.steering.proofs.Theorems.{a-body-is-written-as-its-record, a-record-is-what-stands-there, a-record-written-back-changes-nothing}
-use Rattle.steering.proofs.Theorems.{reading-a-body-that-was-written}
-use Rattle.bahmorist.specs.Modes.{compressInLeaves, compressInRefusal, compressWideInLeaves, compressWideInRefusal}
-use Rattle.bahmorist.specs.Modes.{digestBitsInLeaves, digestBitsInRefusal, digestInLeaves, digestInRefusal, mode_of, noMode}
-use Rattle.bahmorist.specs.Tables.{kindRead, nextRead}
+use Rattle.steering.proofs.Theorems.{a_body_is_written_as_its_record, a_record_is_what_stands_there, a_record_written_back_changes_nothing}
+use Rattle.steering.proofs.Theorems.{reading_a_body_that_was_written}
+use Rattle.bahmorist.specs.Modes.{compress_in_leaves, compress_in_refusal, compress_wide_in_leaves, compress_wide_in_refusal}
+use Rattle.bahmorist.specs.Modes.{digest_bits_in_leaves, digest_bits_in_refusal, digest_in_leaves, digest_in_refusal, mode_of, no_mode}
+use Rattle.bahmorist.specs.Tables.{kind_read, next_read}
 use Rattle.bahmorist.proofs.Laws.Exactly as exactly
 use Rattle.bahmorist.proofs.Laws.Lowest as lowest
 use Rattle.bahmorist.proofs.Laws.Modes as modes
-use Rattle.bahmorist.proofs.Laws.WholeBytes as whole-bytes
+use Rattle.bahmorist.proofs.Laws.WholeBytes as whole_bytes
 
 -- ---- a refusal, whose number is k + 1, changes nothing
 
-pub a-refused-digest-in-a-mode-leaves-the-room : (k number h : ℕ) (salt message room : List ℕ)
-    → digestInRefusal number h (length salt) (length message) (length room) ≡ suc k
-    → digestInLeaves number h salt message room ≡ room
-unfolding digestInLeaves
-a-refused-digest-in-a-mode-leaves-the-room k number h salt message room e = rw e refl
+pub a_refused_digest_in_a_mode_leaves_the_room : (k number h : ℕ) (salt message room : List ℕ)
+    → digest_in_refusal number h (length salt) (length message) (length room) ≡ suc k
+    → digest_in_leaves number h salt message room ≡ room
+unfolding digest_in_leaves
+a_refused_digest_in_a_mode_leaves_the_room k number h salt message room e = rw e refl
 
-pub a-refused-digest-of-bits-in-a-mode-leaves-the-room : (k number h : ℕ) (salt message : List ℕ) (count : ℕ) (room : List ℕ)
-    → digestBitsInRefusal number h (length salt) message count (length room) ≡ suc k
-    → digestBitsInLeaves number h salt message count room ≡ room
-unfolding digestBitsInLeaves
-a-refused-digest-of-bits-in-a-mode-leaves-the-room k number h salt message count room e = rw e refl
+pub a_refused_digest_of_bits_in_a_mode_leaves_the_room : (k number h : ℕ) (salt message : List ℕ) (count : ℕ) (room : List ℕ)
+    → digest_bits_in_refusal number h (length salt) message count (length room) ≡ suc k
+    → digest_bits_in_leaves number h salt message count room ≡ room
+unfolding digest_bits_in_leaves
+a_refused_digest_of_bits_in_a_mode_leaves_the_room k number h salt message count room e = rw e refl
 
-pub a-refused-compression-in-a-mode-leaves-the-chaining-value : (k number : ℕ) (chaining block : List ℕ) (counter : ℕ) (salt : List ℕ)
-    → compressInRefusal number (length chaining) (length block) counter (length salt) ≡ suc k
-    → compressInLeaves number chaining block counter salt ≡ chaining
-unfolding compressInLeaves
-a-refused-compression-in-a-mode-leaves-the-chaining-value k number chaining block counter salt e = rw e refl
+pub a_refused_compression_in_a_mode_leaves_the_chaining_value : (k number : ℕ) (chaining block : List ℕ) (counter : ℕ) (salt : List ℕ)
+    → compress_in_refusal number (length chaining) (length block) counter (length salt) ≡ suc k
+    → compress_in_leaves number chaining block counter salt ≡ chaining
+unfolding compress_in_leaves
+a_refused_compression_in_a_mode_leaves_the_chaining_value k number chaining block counter salt e = rw e refl
 
-pub a-refused-wide-compression-in-a-mode-leaves-the-chaining-value : (k number : ℕ) (chaining block : List ℕ) (counter : ℕ) (salt : List ℕ)
-    → compressWideInRefusal number (length chaining) (length block) (length salt) ≡ suc k
-    → compressWideInLeaves number chaining block counter salt ≡ chaining
-unfolding compressWideInLeaves
-a-refused-wide-compression-in-a-mode-leaves-the-chaining-value k number chaining block counter salt e = rw e refl
+pub a_refused_wide_compression_in_a_mode_leaves_the_chaining_value : (k number : ℕ) (chaining block : List ℕ) (counter : ℕ) (salt : List ℕ)
+    → compress_wide_in_refusal number (length chaining) (length block) (length salt) ≡ suc k
+    → compress_wide_in_leaves number chaining block counter salt ≡ chaining
+unfolding compress_wide_in_leaves
+a_refused_wide_compression_in_a_mode_leaves_the_chaining_value k number chaining block counter salt e = rw e refl
 
 -- ---- of the refusals that apply the lowest is given
 
-pub a-digest-in-a-mode-is-refused-by-the-lowest : (number h saltLength messageLength room : ℕ)
-    → Lowest (digestInRefusal number h saltLength messageLength room)
+pub a_digest_in_a_mode_is_refused_by_the_lowest : (number h saltLength messageLength room : ℕ)
+    → Lowest (digest_in_refusal number h saltLength messageLength room)
     ((1 when not (admitted h))
-    ∷ (2 when noSalt saltLength)
+    ∷ (2 when no_salt saltLength)
     ∷ (4 when ltb limit messageLength)
     ∷ (5 when ltb room (h / 8))
-    ∷ (6 when noMode number)
+    ∷ (6 when no_mode number)
     ∷ [])
-a-digest-in-a-mode-is-refused-by-the-lowest number h saltLength messageLength room = lowest.digest-in-lowest h saltLength messageLength room number
+a_digest_in_a_mode_is_refused_by_the_lowest number h saltLength messageLength room = lowest.digest_in_lowest h saltLength messageLength room number
 
-pub a-digest-of-bits-in-a-mode-is-refused-by-the-lowest : (number h saltLength : ℕ) (message : List ℕ) (count room : ℕ)
-    → Lowest (digestBitsInRefusal number h saltLength message count room)
+pub a_digest_of_bits_in_a_mode_is_refused_by_the_lowest : (number h saltLength : ℕ) (message : List ℕ) (count room : ℕ)
+    → Lowest (digest_bits_in_refusal number h saltLength message count room)
     ((1 when not (admitted h))
-    ∷ (2 when noSalt saltLength)
-    ∷ (4 when ltb bitLimit count)
+    ∷ (2 when no_salt saltLength)
+    ∷ (4 when ltb bit_limit count)
     ∷ (5 when ltb room (h / 8))
-    ∷ (6 when noMode number || otherSize (length message) count)
-    ∷ (17 when setBelow message count)
+    ∷ (6 when no_mode number || other_size (length message) count)
+    ∷ (17 when set_below message count)
     ∷ [])
-unfolding digestBitsInRefusal
-a-digest-of-bits-in-a-mode-is-refused-by-the-lowest number h saltLength message count room = echo.the-first-of-a-list-that-ascends-is-the-lowest _ refl
+unfolding digest_bits_in_refusal
+a_digest_of_bits_in_a_mode_is_refused_by_the_lowest number h saltLength message count room = echo.the_first_of_a_list_that_ascends_is_the_lowest _ refl
 
-pub a-compression-in-a-mode-is-refused-by-the-lowest : (number chainingLength blockLength counter saltLength : ℕ)
-    → Lowest (compressInRefusal number chainingLength blockLength counter saltLength)
-    ((2 when noSalt saltLength)
-    ∷ (6 when noMode number || not (sizesFit (mode_of number) chainingLength blockLength))
-    ∷ (7 when counterTooHigh counter)
+pub a_compression_in_a_mode_is_refused_by_the_lowest : (number chainingLength blockLength counter saltLength : ℕ)
+    → Lowest (compress_in_refusal number chainingLength blockLength counter saltLength)
+    ((2 when no_salt saltLength)
+    ∷ (6 when no_mode number || not (sizes_fit (mode_of number) chainingLength blockLength))
+    ∷ (7 when counter_too_high counter)
     ∷ [])
-unfolding compressInRefusal
-a-compression-in-a-mode-is-refused-by-the-lowest number chainingLength blockLength counter saltLength =
-    echo.the-first-of-a-list-that-ascends-is-the-lowest _ refl
+unfolding compress_in_refusal
+a_compression_in_a_mode_is_refused_by_the_lowest number chainingLength blockLength counter saltLength =
+    echo.the_first_of_a_list_that_ascends_is_the_lowest _ refl
 
-pub a-wide-compression-in-a-mode-is-refused-by-the-lowest : (number chainingLength blockLength saltLength : ℕ)
-    → Lowest (compressWideInRefusal number chainingLength blockLength saltLength)
-    ((2 when noSalt saltLength) ∷ (6 when noMode number || not (sizesFit (mode_of number) chainingLength blockLength)) ∷ [])
-unfolding compressWideInRefusal
-a-wide-compression-in-a-mode-is-refused-by-the-lowest number chainingLength blockLength saltLength = echo.the-first-of-a-list-that-ascends-is-the-lowest _ refl
+pub a_wide_compression_in_a_mode_is_refused_by_the_lowest : (number chainingLength blockLength saltLength : ℕ)
+    → Lowest (compress_wide_in_refusal number chainingLength blockLength saltLength)
+    ((2 when no_salt saltLength) ∷ (6 when no_mode number || not (sizes_fit (mode_of number) chainingLength blockLength)) ∷ [])
+unfolding compress_wide_in_refusal
+a_wide_compression_in_a_mode_is_refused_by_the_lowest number chainingLength blockLength saltLength = echo.the_first_of_a_list_that_ascends_is_the_lowest _ refl
 
 -- ---- a mode's number names it, and no other number is taken
 
-pub a-digest-in-a-mode-is-that-modes : (mode : Mode) (h : ℕ) (salt message room : List ℕ)
-    → (digestInRefusal (modeNumber mode) h (length salt) (length message) (length room)
-    ≡ digestRefusal h (length salt) (length message) (length room))
-    × (digestInLeaves (modeNumber mode) h salt message room ≡ digestLeaves mode h salt message room)
-a-digest-in-a-mode-is-that-modes mode h salt message room =
+pub a_digest_in_a_mode_is_that_modes : (mode : Mode) (h : ℕ) (salt message room : List ℕ)
+    → (digest_in_refusal (mode_number mode) h (length salt) (length message) (length room)
+    ≡ digest_refusal h (length salt) (length message) (length room))
+    × (digest_in_leaves (mode_number mode) h salt message room ≡ digest_leaves mode h salt message room)
+a_digest_in_a_mode_is_that_modes mode h salt message room =
     let N = modes.is_number mode in (
-      sym (modes.digest-passed-on (modeNumber mode) h salt message room false N.0 refl _ refl),
-      sym (modes.digest-left-on (modeNumber mode) h salt message room false N.0 refl mode N.1 _ refl),
+      sym (modes.digest_passed_on (mode_number mode) h salt message room false N.0 refl _ refl),
+      sym (modes.digest_left_on (mode_number mode) h salt message room false N.0 refl mode N.1 _ refl),
     )
 
-pub a-digest-of-bits-in-a-mode-is-that-modes : (mode : Mode) (h : ℕ) (salt message : List ℕ) (count : ℕ) (room : List ℕ)
-    → (digestBitsInRefusal (modeNumber mode) h (length salt) message count (length room)
-    ≡ digestBitsRefusal h (length salt) message count (length room))
-    × (digestBitsInLeaves (modeNumber mode) h salt message count room ≡ digestBitsLeaves mode h salt message count room)
-a-digest-of-bits-in-a-mode-is-that-modes mode h salt message count room =
+pub a_digest_of_bits_in_a_mode_is_that_modes : (mode : Mode) (h : ℕ) (salt message : List ℕ) (count : ℕ) (room : List ℕ)
+    → (digest_bits_in_refusal (mode_number mode) h (length salt) message count (length room)
+    ≡ digest_bits_refusal h (length salt) message count (length room))
+    × (digest_bits_in_leaves (mode_number mode) h salt message count room ≡ digest_bits_leaves mode h salt message count room)
+a_digest_of_bits_in_a_mode_is_that_modes mode h salt message count room =
     let N = modes.is_number mode in (
-      sym (modes.bits-passed-on (modeNumber mode) h salt message count room false N.0 refl _ refl),
-      sym (modes.bits-left-on (modeNumber mode) h salt message count room false N.0 refl mode N.1 _ refl),
+      sym (modes.bits_passed_on (mode_number mode) h salt message count room false N.0 refl _ refl),
+      sym (modes.bits_left_on (mode_number mode) h salt message count room false N.0 refl mode N.1 _ refl),
     )
 
-pub a-compression-in-a-mode-is-that-modes : (mode : Mode) (chaining block : List ℕ) (counter : ℕ) (salt : List ℕ)
-    → (compressInRefusal (modeNumber mode) (length chaining) (length block) counter (length salt)
-    ≡ compressRefusal mode (length chaining) (length block) counter (length salt))
-    × (compressInLeaves (modeNumber mode) chaining block counter salt ≡ compressLeaves mode chaining block counter salt)
-a-compression-in-a-mode-is-that-modes mode chaining block counter salt =
+pub a_compression_in_a_mode_is_that_modes : (mode : Mode) (chaining block : List ℕ) (counter : ℕ) (salt : List ℕ)
+    → (compress_in_refusal (mode_number mode) (length chaining) (length block) counter (length salt)
+    ≡ compress_refusal mode (length chaining) (length block) counter (length salt))
+    × (compress_in_leaves (mode_number mode) chaining block counter salt ≡ compress_leaves mode chaining block counter salt)
+a_compression_in_a_mode_is_that_modes mode chaining block counter salt =
     let N = modes.is_number mode in (
-      sym (modes.compress-passed-on (modeNumber mode) chaining block counter salt false N.0 refl mode N.1 _ refl),
-      sym (modes.compress-left-on (modeNumber mode) chaining block counter salt false N.0 refl mode N.1 _ refl),
+      sym (modes.compress_passed_on (mode_number mode) chaining block counter salt false N.0 refl mode N.1 _ refl),
+      sym (modes.compress_left_on (mode_number mode) chaining block counter salt false N.0 refl mode N.1 _ refl),
     )
 
-pub a-wide-compression-in-a-mode-is-that-modes : (mode : Mode) (chaining block : List ℕ) (counter : ℕ) (salt : List ℕ)
-    → (compressWideInRefusal (modeNumber mode) (length chaining) (length block) (length salt)
-    ≡ compressWideRefusal mode (length chaining) (length block) (length salt))
-    × (compressWideInLeaves (modeNumber mode) chaining block counter salt ≡ compressWideLeaves mode chaining block counter salt)
-a-wide-compression-in-a-mode-is-that-modes mode chaining block counter salt =
+pub a_wide_compression_in_a_mode_is_that_modes : (mode : Mode) (chaining block : List ℕ) (counter : ℕ) (salt : List ℕ)
+    → (compress_wide_in_refusal (mode_number mode) (length chaining) (length block) (length salt)
+    ≡ compress_wide_refusal mode (length chaining) (length block) (length salt))
+    × (compress_wide_in_leaves (mode_number mode) chaining block counter salt ≡ compress_wide_leaves mode chaining block counter salt)
+a_wide_compression_in_a_mode_is_that_modes mode chaining block counter salt =
     let N = modes.is_number mode in (
-      sym (modes.wide-passed-on (modeNumber mode) chaining block counter salt false N.0 refl mode N.1 _ refl),
-      sym (modes.wide-left-on (modeNumber mode) chaining block counter salt false N.0 refl mode N.1 _ refl),
+      sym (modes.wide_passed_on (mode_number mode) chaining block counter salt false N.0 refl mode N.1 _ refl),
+      sym (modes.wide_left_on (mode_number mode) chaining block counter salt false N.0 refl mode N.1 _ refl),
     )
 
-pub no-other-number-is-taken : (number h : ℕ) (salt message room chaining block : List ℕ) (counter count : ℕ)
+pub no_other_number_is_taken : (number h : ℕ) (salt message room chaining block : List ℕ) (counter count : ℕ)
     → (number ≡ 0 → ⊥)
     → (number ≡ 1 → ⊥)
-    → (digestInRefusal number h (length salt) (length message) (length room) ≡ 0 → ⊥)
-    × (digestBitsInRefusal number h (length salt) message count (length room) ≡ 0 → ⊥)
-    × (compressInRefusal number (length chaining) (length block) counter (length salt) ≡ 0 → ⊥)
-    × (compressWideInRefusal number (length chaining) (length block) (length salt) ≡ 0 → ⊥)
-no-other-number-is-taken number h salt message room chaining block counter count z o =
-    let none : true ≡ noMode number = rw (ne_eqb number 0 z, ne_eqb number 1 o) in (
-      modes.digest-refuses number h salt message room true none refl,
-      modes.bits-refuses number h salt message count room true none refl,
-      modes.compress-refuses number chaining block counter salt true none refl,
-      modes.wide-refuses number chaining block counter salt true none refl,
+    → (digest_in_refusal number h (length salt) (length message) (length room) ≡ 0 → ⊥)
+    × (digest_bits_in_refusal number h (length salt) message count (length room) ≡ 0 → ⊥)
+    × (compress_in_refusal number (length chaining) (length block) counter (length salt) ≡ 0 → ⊥)
+    × (compress_wide_in_refusal number (length chaining) (length block) (length salt) ≡ 0 → ⊥)
+no_other_number_is_taken number h salt message room chaining block counter count z o =
+    let none : true ≡ no_mode number = rw (ne_eqb number 0 z, ne_eqb number 1 o) in (
+      modes.digest_refuses number h salt message room true none refl,
+      modes.bits_refuses number h salt message count room true none refl,
+      modes.compress_refuses number chaining block counter salt true none refl,
+      modes.wide_refuses number chaining block counter salt true none refl,
     )
 
 -- ---- where 6 is given: the number is no mode's, or a size is another, and nothing lower applies
 
-pub a-digest-in-a-mode-is-refused-by-6-exactly : (number h saltLength messageLength room : ℕ)
-    → (digestInRefusal number h saltLength messageLength room ≡ 6)
-    ↔ ((number ≡ 0 → ⊥) × (number ≡ 1 → ⊥) × (digestRefusal h saltLength messageLength room ≡ 0))
-a-digest-in-a-mode-is-refused-by-6-exactly = exactly.digest-6-exactly
+pub a_digest_in_a_mode_is_refused_by_6_exactly : (number h saltLength messageLength room : ℕ)
+    → (digest_in_refusal number h saltLength messageLength room ≡ 6)
+    ↔ ((number ≡ 0 → ⊥) × (number ≡ 1 → ⊥) × (digest_refusal h saltLength messageLength room ≡ 0))
+a_digest_in_a_mode_is_refused_by_6_exactly = exactly.digest_6_exactly
 
-pub a-digest-of-bits-in-a-mode-is-refused-by-6-exactly : (number h saltLength : ℕ) (message : List ℕ) (count room : ℕ)
-    → (digestBitsInRefusal number h saltLength message count room ≡ 6)
+pub a_digest_of_bits_in_a_mode_is_refused_by_6_exactly : (number h saltLength : ℕ) (message : List ℕ) (count room : ℕ)
+    → (digest_bits_in_refusal number h saltLength message count room ≡ 6)
     ↔ ((admitted h ≡ true)
     × (saltLength ≡ 16)
-    × (count ≤ bitLimit)
+    × (count ≤ bit_limit)
     × (h / 8 ≤ room)
     × (((number ≡ 0 → ⊥) × (number ≡ 1 → ⊥)) ⊎ (length message ≡ (count + 7) / 8 → ⊥)))
-a-digest-of-bits-in-a-mode-is-refused-by-6-exactly = exactly.bits-6-exactly
+a_digest_of_bits_in_a_mode_is_refused_by_6_exactly = exactly.bits_6_exactly
 
-pub a-compression-in-a-mode-is-refused-by-6-exactly : (number chainingLength blockLength counter saltLength : ℕ)
-    → (compressInRefusal number chainingLength blockLength counter saltLength ≡ 6)
-    ↔ ((saltLength ≡ 16) × (((number ≡ 0 → ⊥) × (number ≡ 1 → ⊥)) ⊎ (sizesFit (mode_of number) chainingLength blockLength ≡ false)))
-a-compression-in-a-mode-is-refused-by-6-exactly number chainingLength blockLength counter saltLength =
-    exactly.compress-6-exactly number chainingLength blockLength saltLength counter
+pub a_compression_in_a_mode_is_refused_by_6_exactly : (number chainingLength blockLength counter saltLength : ℕ)
+    → (compress_in_refusal number chainingLength blockLength counter saltLength ≡ 6)
+    ↔ ((saltLength ≡ 16) × (((number ≡ 0 → ⊥) × (number ≡ 1 → ⊥)) ⊎ (sizes_fit (mode_of number) chainingLength blockLength ≡ false)))
+a_compression_in_a_mode_is_refused_by_6_exactly number chainingLength blockLength counter saltLength =
+    exactly.compress_6_exactly number chainingLength blockLength saltLength counter
 
-pub a-wide-compression-in-a-mode-is-refused-by-6-exactly : (number chainingLength blockLength saltLength : ℕ)
-    → (compressWideInRefusal number chainingLength blockLength saltLength ≡ 6)
-    ↔ ((saltLength ≡ 16) × (((number ≡ 0 → ⊥) × (number ≡ 1 → ⊥)) ⊎ (sizesFit (mode_of number) chainingLength blockLength ≡ false)))
-a-wide-compression-in-a-mode-is-refused-by-6-exactly = exactly.wide-6-exactly
+pub a_wide_compression_in_a_mode_is_refused_by_6_exactly : (number chainingLength blockLength saltLength : ℕ)
+    → (compress_wide_in_refusal number chainingLength blockLength saltLength ≡ 6)
+    ↔ ((saltLength ≡ 16) × (((number ≡ 0 → ⊥) × (number ≡ 1 → ⊥)) ⊎ (sizes_fit (mode_of number) chainingLength blockLength ≡ false)))
+a_wide_compression_in_a_mode_is_refused_by_6_exactly = exactly.wide_6_exactly
 
 -- ---- whole bytes are eight bits each, whatever the number
 
-pub a-digest-of-whole-bytes-in-a-mode-is-that-of-their-bits : (number h : ℕ) (salt message room : List ℕ)
-    → (digestBitsInRefusal number h (length salt) message (8 * length message) (length room)
-    ≡ digestInRefusal number h (length salt) (length message) (length room))
-    × (digestBitsInLeaves number h salt message (8 * length message) room ≡ digestInLeaves number h salt message room)
-a-digest-of-whole-bytes-in-a-mode-is-that-of-their-bits = whole-bytes.agrees
+pub a_digest_of_whole_bytes_in_a_mode_is_that_of_their_bits : (number h : ℕ) (salt message room : List ℕ)
+    → (digest_bits_in_refusal number h (length salt) message (8 * length message) (length room)
+    ≡ digest_in_refusal number h (length salt) (length message) (length room))
+    × (digest_bits_in_leaves number h salt message (8 * length message) room ≡ digest_in_leaves number h salt message room)
+a_digest_of_whole_bytes_in_a_mode_is_that_of_their_bits = whole_bytes.agrees
 
 -- ---- tables
 
 -- what is written is read: the kind byte, and the same place behind it
-pub what-is-written-is-read : (room : List ℕ) (place kind : ℕ) (body : List ℕ)
+pub what_is_written_is_read : (room : List ℕ) (place kind : ℕ) (body : List ℕ)
     → AreBytes body
     → length room ≤ 4096
-    → writeBodyRefusal (length room) place kind (length body) ≡ 0
-    → let x = readAt (writeBodyLeaves room place kind body) place in
-    (number_of x ≡ 0) × (kindRead x ≡ kind) × (nextRead place x ≡ (writeBodyAnswer (length room) place kind (length body)).next)
-what-is-written-is-read room place kind body b short e =
-    let R = reading-a-body-that-was-written room place kind body b short e in
-    (ap number_of R.0, ap kindRead R.0 ∙ R.1, ap (nextRead place) R.0)
+    → write_body_refusal (length room) place kind (length body) ≡ 0
+    → let x = read_at (write_body_leaves room place kind body) place in
+    (number_of x ≡ 0) × (kind_read x ≡ kind) × (next_read place x ≡ (write_body_answer (length room) place kind (length body)).next)
+what_is_written_is_read room place kind body b short e =
+    let R = reading_a_body_that_was_written room place kind body b short e in
+    (ap number_of R.0, ap kind_read R.0 ∙ R.1, ap (next_read place) R.0)
 
 -- what is read is written: the kind byte and the bytes between it and the next place, put where they stood, leave the table as it was
-pub what-is-read-is-written : (t : List ℕ) (place : ℕ) (r : Record) (next : ℕ)
+pub what_is_read_is_written : (t : List ℕ) (place : ℕ) (r : Record) (next : ℕ)
     → AreBytes t
-    → Found r next ≡ readAt t place
-    → let kind = kindRead (readAt t place) in
-    let body = take (nextRead place (readAt t place) - (place + 1)) (drop (place + 1) t) in
-    (writeBodyAnswer (length t) place kind (length body) ≡ record { refusal = 0; next = nextRead place (readAt t place) })
-    × (writeBodyLeaves t place kind body ≡ t)
-what-is-read-is-written t place r next b e =
-    let R = a-record-is-what-stands-there t place next r b e in
-    let W = a-body-is-written-as-its-record t place r R.2 in
-    let B = a-record-written-back-changes-nothing t place next r b e in
+    → Found r next ≡ read_at t place
+    → let kind = kind_read (read_at t place) in
+    let body = take (next_read place (read_at t place) - (place + 1)) (drop (place + 1) t) in
+    (write_body_answer (length t) place kind (length body) ≡ record { refusal = 0; next = next_read place (read_at t place) })
+    × (write_body_leaves t place kind body ≡ t)
+what_is_read_is_written t place r next b e =
+    let R = a_record_is_what_stands_there t place next r b e in
+    let W = a_body_is_written_as_its_record t place r R.2 in
+    let B = a_record_written_back_changes_nothing t place next r b e in
     rw (← e, ← R.1) (W.0 ∙ B.0, W.1 ∙ B.1)

@@ -6,5 +6,5 @@ number_of true = 1
 number_of false = 0
 
 -- of its three parts, 0.9.0
-abbrev pub versionNumber : ℕ
-versionNumber = 10000 * 0 + 100 * 9 + 0
+abbrev pub version_number : ℕ
+version_number = 10000 * 0 + 100 * 9 + 0

@@ -5,13 +5,13 @@ use Rattle.steering.specs.declared.reading.Reading.{Reading}
 use Rattle.steering.specs.declared.reading.Reading.TheVariants.{End, Found, Refused}
 
 -- the record's kind byte; 0 at the end and with a refusal
-abbrev pub kindRead : Reading → ℕ
-kindRead (Found r next) = kind_of r
-kindRead End = 0
-kindRead (Refused number place) = 0
+abbrev pub kind_read : Reading → ℕ
+kind_read (Found r next) = kind_of r
+kind_read End = 0
+kind_read (Refused number place) = 0
 
 -- the place behind the record; at the end the place that was asked for; the place that a refusal returns
-abbrev pub nextRead : ℕ → Reading → ℕ
-nextRead asked (Found r next) = next
-nextRead asked End = asked
-nextRead asked (Refused number place) = place
+abbrev pub next_read : ℕ → Reading → ℕ
+next_read asked (Found r next) = next
+next_read asked End = asked
+next_read asked (Refused number place) = place

@@ -6,17 +6,17 @@ mod modes;
 ghost use Rattle.std.specs.Prelude.{◌≡◌, length};
 ghost use Rattle.echo.specs.declared.mode.Mode.TheVariants.{DoublePipe};
 ghost use Rattle.echo.specs.Numbers.{halves};
-ghost use Rattle.echo.specs.Routines.{compressLeaves, compressRefusal, roundsBackLeave, roundsBackWideLeave, roundsLeave, roundsRefusal, roundsWideLeave, roundsWideRefusal};
-ghost use Rattle.echo.specs.Session.{digestLeaves, digestRefusal};
-ghost use Rattle.hmac.specs.Routines.{checkAnswer, makeLeaves, makeRefusal, verifyRefusal};
+ghost use Rattle.echo.specs.Routines.{compress_leaves, compress_refusal, rounds_back_leave, rounds_back_wide_leave, rounds_leave, rounds_refusal, rounds_wide_leave, rounds_wide_refusal};
+ghost use Rattle.echo.specs.Session.{digest_leaves, digest_refusal};
+ghost use Rattle.hmac.specs.Routines.{check_answer, make_leaves, make_refusal, verify_refusal};
 ghost use Rattle.hmac.specs.Same.{same};
-ghost use Rattle.steering.specs.Fingerprint.{fingerprintAnswer, fingerprintLeaves};
+ghost use Rattle.steering.specs.Fingerprint.{fingerprint_answer, fingerprint_leaves};
 ghost use Rattle.steering.specs.Parsing.{count_of, parse};
-ghost use Rattle.steering.specs.Reading.{number_of as readNumber, readAt};
-ghost use Rattle.steering.specs.Writing.{writeBodyAnswer, writeBodyLeaves};
-ghost use Rattle.bahmorist.specs.Answers.{number_of, versionNumber};
-ghost use Rattle.bahmorist.specs.Tables.{kindRead, nextRead};
-ghost use Rattle.bahmorist.specs.Modes.{compressInLeaves, compressInRefusal, compressWideInLeaves, compressWideInRefusal, digestBitsInLeaves, digestBitsInRefusal, digestInLeaves, digestInRefusal};
+ghost use Rattle.steering.specs.Reading.{number_of as readNumber, read_at};
+ghost use Rattle.steering.specs.Writing.{write_body_answer, write_body_leaves};
+ghost use Rattle.bahmorist.specs.Answers.{number_of, version_number};
+ghost use Rattle.bahmorist.specs.Tables.{kind_read, next_read};
+ghost use Rattle.bahmorist.specs.Modes.{compress_in_leaves, compress_in_refusal, compress_wide_in_leaves, compress_wide_in_refusal, digest_bits_in_leaves, digest_bits_in_refusal, digest_in_leaves, digest_in_refusal};
 
 use echo::Mode;
 use modes::{mode_of, no_mode};
@@ -25,8 +25,8 @@ use steering::Reading;
 // The digest of a message at the front of `out`, and 0; or a refusal by 1, 2, 4 or 5.
 #[unsafe(no_mangle)]
 pub extern "C" fn bahmorist_digest(bits: u64, salt: &[u8], message: &[u8], out: &mut [u8]) -> u8
-    ensures refusal { result ≡ digestRefusal bits (length salt.now) (length message.now) (length out.old) }
-    ensures left { out.new ≡ digestLeaves DoublePipe bits salt.now message.now out.old }
+    ensures refusal { result ≡ digest_refusal bits (length salt.now) (length message.now) (length out.old) }
+    ensures left { out.new ≡ digest_leaves DoublePipe bits salt.now message.now out.old }
 {
     echo::digest(Mode::DoublePipe, bits, salt, message, out)
 }
@@ -40,8 +40,8 @@ pub extern "C" fn bahmorist_digest_in(
     message: &[u8],
     out: &mut [u8],
 ) -> u8
-    ensures refusal { result ≡ digestInRefusal mode bits (length salt.now) (length message.now) (length out.old) }
-    ensures left { out.new ≡ digestInLeaves mode bits salt.now message.now out.old }
+    ensures refusal { result ≡ digest_in_refusal mode bits (length salt.now) (length message.now) (length out.old) }
+    ensures left { out.new ≡ digest_in_leaves mode bits salt.now message.now out.old }
 {
     if no_mode(mode) {
         let refusal = echo::digest_refusal(bits, salt.len(), message.len(), out.len());
@@ -60,8 +60,8 @@ pub extern "C" fn bahmorist_digest_bits(
     count: u64,
     out: &mut [u8],
 ) -> u8
-    ensures refusal { result ≡ digestBitsInRefusal mode bits (length salt.now) message.now count (length out.old) }
-    ensures left { out.new ≡ digestBitsInLeaves mode bits salt.now message.now count out.old }
+    ensures refusal { result ≡ digest_bits_in_refusal mode bits (length salt.now) message.now count (length out.old) }
+    ensures left { out.new ≡ digest_bits_in_leaves mode bits salt.now message.now count out.old }
 {
     if no_mode(mode) {
         let whole = (count / 8) as usize;
@@ -74,8 +74,8 @@ pub extern "C" fn bahmorist_digest_bits(
 // The square after 8 or 10 rounds that count on from `counter`, and 0; or a refusal by 2, 6 or 7.
 #[unsafe(no_mangle)]
 pub extern "C" fn bahmorist_rounds(square: &mut [u8], rounds: u64, counter: u64, salt: &[u8]) -> u8
-    ensures refusal { result ≡ roundsRefusal (length square.old) rounds counter (length salt.now) }
-    ensures left { square.new ≡ roundsLeave square.old rounds counter salt.now }
+    ensures refusal { result ≡ rounds_refusal (length square.old) rounds counter (length salt.now) }
+    ensures left { square.new ≡ rounds_leave square.old rounds counter salt.now }
 {
     echo::rounds(square, rounds, counter, salt)
 }
@@ -88,8 +88,8 @@ pub extern "C" fn bahmorist_rounds_back(
     counter: u64,
     salt: &[u8],
 ) -> u8
-    ensures refusal { result ≡ roundsRefusal (length square.old) rounds counter (length salt.now) }
-    ensures left { square.new ≡ roundsBackLeave square.old rounds counter salt.now }
+    ensures refusal { result ≡ rounds_refusal (length square.old) rounds counter (length salt.now) }
+    ensures left { square.new ≡ rounds_back_leave square.old rounds counter salt.now }
 {
     echo::rounds_back(square, rounds, counter, salt)
 }
@@ -103,8 +103,8 @@ pub extern "C" fn bahmorist_rounds_wide(
     high: u64,
     salt: &[u8],
 ) -> u8
-    ensures refusal { result ≡ roundsWideRefusal (length square.old) rounds (length salt.now) }
-    ensures left { square.new ≡ roundsWideLeave square.old rounds (halves low high) salt.now }
+    ensures refusal { result ≡ rounds_wide_refusal (length square.old) rounds (length salt.now) }
+    ensures left { square.new ≡ rounds_wide_leave square.old rounds (halves low high) salt.now }
 {
     echo::rounds_wide(square, rounds, low, high, salt)
 }
@@ -118,8 +118,8 @@ pub extern "C" fn bahmorist_rounds_back_wide(
     high: u64,
     salt: &[u8],
 ) -> u8
-    ensures refusal { result ≡ roundsWideRefusal (length square.old) rounds (length salt.now) }
-    ensures left { square.new ≡ roundsBackWideLeave square.old rounds (halves low high) salt.now }
+    ensures refusal { result ≡ rounds_wide_refusal (length square.old) rounds (length salt.now) }
+    ensures left { square.new ≡ rounds_back_wide_leave square.old rounds (halves low high) salt.now }
 {
     echo::rounds_back_wide(square, rounds, low, high, salt)
 }
@@ -132,8 +132,8 @@ pub extern "C" fn bahmorist_compress(
     counter: u64,
     salt: &[u8],
 ) -> u8
-    ensures refusal { result ≡ compressRefusal DoublePipe (length chaining.old) (length block.now) counter (length salt.now) }
-    ensures left { chaining.new ≡ compressLeaves DoublePipe chaining.old block.now counter salt.now }
+    ensures refusal { result ≡ compress_refusal DoublePipe (length chaining.old) (length block.now) counter (length salt.now) }
+    ensures left { chaining.new ≡ compress_leaves DoublePipe chaining.old block.now counter salt.now }
 {
     echo::compress(Mode::DoublePipe, chaining, block, counter, salt)
 }
@@ -147,8 +147,8 @@ pub extern "C" fn bahmorist_compress_in(
     counter: u64,
     salt: &[u8],
 ) -> u8
-    ensures refusal { result ≡ compressInRefusal mode (length chaining.old) (length block.now) counter (length salt.now) }
-    ensures left { chaining.new ≡ compressInLeaves mode chaining.old block.now counter salt.now }
+    ensures refusal { result ≡ compress_in_refusal mode (length chaining.old) (length block.now) counter (length salt.now) }
+    ensures left { chaining.new ≡ compress_in_leaves mode chaining.old block.now counter salt.now }
 {
     if no_mode(mode) {
         return if salt.len() == 16 { 6 } else { 2 };
@@ -166,8 +166,8 @@ pub extern "C" fn bahmorist_compress_wide(
     high: u64,
     salt: &[u8],
 ) -> u8
-    ensures refusal { result ≡ compressWideInRefusal mode (length chaining.old) (length block.now) (length salt.now) }
-    ensures left { chaining.new ≡ compressWideInLeaves mode chaining.old block.now (halves low high) salt.now }
+    ensures refusal { result ≡ compress_wide_in_refusal mode (length chaining.old) (length block.now) (length salt.now) }
+    ensures left { chaining.new ≡ compress_wide_in_leaves mode chaining.old block.now (halves low high) salt.now }
 {
     if no_mode(mode) {
         return if salt.len() != 16 { 2 } else { 6 };
@@ -184,9 +184,9 @@ pub extern "C" fn bahmorist_fingerprint(
     out: &mut [u8],
     place: &mut u64,
 ) -> u8
-    ensures refusal { result ≡ (fingerprintAnswer (length salt.now) (length out.old) (parse table.now)).refusal }
-    ensures left { out.new ≡ fingerprintLeaves salt.now table.now out.old }
-    ensures place { place.new ≡ (fingerprintAnswer (length salt.now) (length out.old) (parse table.now)).place }
+    ensures refusal { result ≡ (fingerprint_answer (length salt.now) (length out.old) (parse table.now)).refusal }
+    ensures left { out.new ≡ fingerprint_leaves salt.now table.now out.old }
+    ensures place { place.new ≡ (fingerprint_answer (length salt.now) (length out.old) (parse table.now)).place }
 {
     let answer = steering::fingerprint(salt, table, out);
     *place = answer.place as u64;
@@ -197,9 +197,9 @@ pub extern "C" fn bahmorist_fingerprint(
 // behind the record; 0 and the place at the table's end; 0 and the refusal's place.
 #[unsafe(no_mangle)]
 pub extern "C" fn bahmorist_read_at(table: &[u8], place: u64, kind: &mut u8, next: &mut u64) -> u8
-    ensures refusal { result ≡ readNumber (readAt table.now place) }
-    ensures kind { kind.new ≡ kindRead (readAt table.now place) }
-    ensures next { next.new ≡ nextRead place (readAt table.now place) }
+    ensures refusal { result ≡ readNumber (read_at table.now place) }
+    ensures kind { kind.new ≡ kind_read (read_at table.now place) }
+    ensures next { next.new ≡ next_read place (read_at table.now place) }
 {
     match steering::read_at(table, place as usize) {
         Reading::Found {
@@ -247,9 +247,9 @@ pub extern "C" fn bahmorist_write_at(
     body: &[u8],
     next: &mut u64,
 ) -> u8
-    ensures refusal { result ≡ (writeBodyAnswer (length room.old) place kind (length body.now)).refusal }
-    ensures left { room.new ≡ writeBodyLeaves room.old place kind body.now }
-    ensures next { next.new ≡ (writeBodyAnswer (length room.old) place kind (length body.now)).next }
+    ensures refusal { result ≡ (write_body_answer (length room.old) place kind (length body.now)).refusal }
+    ensures left { room.new ≡ write_body_leaves room.old place kind body.now }
+    ensures next { next.new ≡ (write_body_answer (length room.old) place kind (length body.now)).next }
 {
     let written = steering::write_body_at(room, place as usize, kind, body);
     *next = written.next as u64;
@@ -265,8 +265,8 @@ pub extern "C" fn bahmorist_hmac(
     message: &[u8],
     out: &mut [u8],
 ) -> u8
-    ensures refusal { result ≡ makeRefusal bits (length salt.now) (length key.now) (length message.now) (length out.old) }
-    ensures left { out.new ≡ makeLeaves bits salt.now key.now message.now out.old }
+    ensures refusal { result ≡ make_refusal bits (length salt.now) (length key.now) (length message.now) (length out.old) }
+    ensures left { out.new ≡ make_leaves bits salt.now key.now message.now out.old }
 {
     hmac::make_tag(bits, salt, key, message, out)
 }
@@ -280,7 +280,7 @@ pub extern "C" fn bahmorist_hmac_verify(
     message: &[u8],
     tag: &[u8],
 ) -> u8
-    ensures { result ≡ verifyRefusal bits salt.now key.now message.now tag.now }
+    ensures { result ≡ verify_refusal bits salt.now key.now message.now tag.now }
 {
     hmac::verify_tag(bits, salt, key, message, tag)
 }
@@ -296,8 +296,8 @@ pub extern "C" fn bahmorist_hmac_check(
     tag: &[u8],
     yes: &mut u8,
 ) -> u8
-    ensures refusal { result ≡ (checkAnswer bits salt.now key.now message.now tag.now).refusal }
-    ensures yes { yes.new ≡ number_of (checkAnswer bits salt.now key.now message.now tag.now).yes }
+    ensures refusal { result ≡ (check_answer bits salt.now key.now message.now tag.now).refusal }
+    ensures yes { yes.new ≡ number_of (check_answer bits salt.now key.now message.now tag.now).yes }
 {
     let verdict = hmac::check_tag(bits, salt, key, message, tag);
     *yes = number_of(verdict.yes);
@@ -315,7 +315,7 @@ pub extern "C" fn bahmorist_same(a: &[u8], b: &[u8]) -> u8
 // The version of the library as one number.
 #[unsafe(no_mangle)]
 pub extern "C" fn bahmorist_version() -> u32
-    ensures { result ≡ versionNumber }
+    ensures { result ≡ version_number }
 {
     900
 }

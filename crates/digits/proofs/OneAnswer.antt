@@ -5,11 +5,11 @@ use Rattle.digits.proofs.hexadecimal.nibble.Reads as nibble
 use Rattle.digits.proofs.numbers.number_in.Reads as numbering
 use Rattle.digits.proofs.salts.salt_in.Reads as salting
 
-pub nibble-has-one-answer : (κs : _) (a : _) (r r' : _) (s s' : _) → nibble.Post κs a r s → nibble.Post κs a r' s' → r ≡ r'
-nibble-has-one-answer κs a r r' s s' p q = p ∙ sym q
+pub nibble_has_one_answer : (κs : _) (a : _) (r r' : _) (s s' : _) → nibble.Post κs a r s → nibble.Post κs a r' s' → r ≡ r'
+nibble_has_one_answer κs a r r' s s' p q = p ∙ sym q
 
-pub number-in-has-one-answer : (κs : _) (a : _) (r r' : _) (s s' : _) → numbering.Post κs a r s → numbering.Post κs a r' s' → r ≡ r'
-number-in-has-one-answer κs a r r' s s' p q = p ∙ sym q
+pub number_in_has_one_answer : (κs : _) (a : _) (r r' : _) (s s' : _) → numbering.Post κs a r s → numbering.Post κs a r' s' → r ≡ r'
+number_in_has_one_answer κs a r r' s s' p q = p ∙ sym q
 
-pub salt-in-has-one-answer : (κs : _) (a : _) (r r' : _) (s s' : _) → salting.Post κs a r s → salting.Post κs a r' s' → r ≡ r'
-salt-in-has-one-answer κs a r r' s s' p q = p ∙ sym q
+pub salt_in_has_one_answer : (κs : _) (a : _) (r r' : _) (s s' : _) → salting.Post κs a r s → salting.Post κs a r' s' → r ≡ r'
+salt_in_has_one_answer κs a r r' s s' p q = p ∙ sym q

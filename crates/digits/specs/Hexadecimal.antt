@@ -2,8 +2,8 @@
 use Rattle.std.specs.Prelude.{ℕ, ◌+◌, ◌-◌, cond, leb, ltb}
 
 -- the value of a digit, `0` to `9`, `A` to `F` or `a` to `f`, and 16 for any other byte
-unfoldable pub nibbleOf : ℕ → ℕ
-nibbleOf x =
+unfoldable pub nibble_of : ℕ → ℕ
+nibble_of x =
     cond (ltb x 48) 16
     (cond (leb x 57) (x - 48)
     (cond (ltb x 65) 16

@@ -1,10 +1,10 @@
 // The values of hex digits.
 ghost use Rattle.std.specs.Prelude.{◌≡◌};
-ghost use Rattle.digits.specs.Hexadecimal.{nibbleOf};
+ghost use Rattle.digits.specs.Hexadecimal.{nibble_of};
 
 // The value of a hex digit of either case, and 16 for any other byte.
 pub fn nibble(digit: u8) -> u8
-    ensures { result ≡ nibbleOf digit }
+    ensures { result ≡ nibble_of digit }
 {
     if digit < b'0' {
         return 16;

@@ -1,6 +1,6 @@
 // Salts in hex.
 ghost use Rattle.std.specs.Prelude.{◌≡◌};
-ghost use Rattle.digits.specs.Salts.{saltOf};
+ghost use Rattle.digits.specs.Salts.{salt_of};
 
 use super::hexadecimal::nibble;
 
@@ -12,7 +12,7 @@ pub struct Salt {
 
 // Thirty-two hex digits.
 pub fn salt_in(word: &[u8]) -> Salt
-    ensures { result ≡ saltOf word.now }
+    ensures { result ≡ salt_of word.now }
 {
     let none = Salt {
         is_good: false,

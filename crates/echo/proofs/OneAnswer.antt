@@ -18,55 +18,55 @@ use Rattle.echo.proofs.digest_at_once.digest.Reads as digest
 use Rattle.echo.proofs.digest_at_once.digest_bits.Reads as digest_bits
 use Rattle.echo.proofs.refusals.digest_refusal.Reads as digest_refusal
 
-pub rounds-has-one-answer : (κs : _) (a : _) (r r' : _) (s s' : _) → rounds.Post κs a r s → rounds.Post κs a r' s' → (r ≡ r') × (s.0.now ≡ s'.0.now)
-rounds-has-one-answer κs a r r' s s' p q = (p.0 ∙ sym q.0, p.1 ∙ sym q.1)
+pub rounds_has_one_answer : (κs : _) (a : _) (r r' : _) (s s' : _) → rounds.Post κs a r s → rounds.Post κs a r' s' → (r ≡ r') × (s.0.now ≡ s'.0.now)
+rounds_has_one_answer κs a r r' s s' p q = (p.0 ∙ sym q.0, p.1 ∙ sym q.1)
 
-pub rounds-back-has-one-answer : (κs : _) (a : _) (r r' : _) (s s' : _) → rounds_back.Post κs a r s → rounds_back.Post κs a r' s'
+pub rounds_back_has_one_answer : (κs : _) (a : _) (r r' : _) (s s' : _) → rounds_back.Post κs a r s → rounds_back.Post κs a r' s'
     → (r ≡ r') × (s.0.now ≡ s'.0.now)
-rounds-back-has-one-answer κs a r r' s s' p q = (p.0 ∙ sym q.0, p.1 ∙ sym q.1)
+rounds_back_has_one_answer κs a r r' s s' p q = (p.0 ∙ sym q.0, p.1 ∙ sym q.1)
 
-pub rounds-by-bytes-has-one-answer : (κs : _) (a : _) (r r' : _) (s s' : _) → rounds_by_bytes.Post κs a r s → rounds_by_bytes.Post κs a r' s'
+pub rounds_by_bytes_has_one_answer : (κs : _) (a : _) (r r' : _) (s s' : _) → rounds_by_bytes.Post κs a r s → rounds_by_bytes.Post κs a r' s'
     → (r ≡ r') × (s.0.now ≡ s'.0.now)
-rounds-by-bytes-has-one-answer κs a r r' s s' p q = (p.0 ∙ sym q.0, p.1 ∙ sym q.1)
+rounds_by_bytes_has_one_answer κs a r r' s s' p q = (p.0 ∙ sym q.0, p.1 ∙ sym q.1)
 
-pub compress-has-one-answer : (κs : _) (a : _) (r r' : _) (s s' : _) → compress.Post κs a r s → compress.Post κs a r' s'
+pub compress_has_one_answer : (κs : _) (a : _) (r r' : _) (s s' : _) → compress.Post κs a r s → compress.Post κs a r' s'
     → (r ≡ r') × (s.1.0.now ≡ s'.1.0.now)
-compress-has-one-answer κs a r r' s s' p q = (p.0 ∙ sym q.0, p.1 ∙ sym q.1)
+compress_has_one_answer κs a r r' s s' p q = (p.0 ∙ sym q.0, p.1 ∙ sym q.1)
 
-pub rounds-wide-has-one-answer : (κs : _) (a : _) (r r' : _) (s s' : _) → rounds_wide.Post κs a r s → rounds_wide.Post κs a r' s'
+pub rounds_wide_has_one_answer : (κs : _) (a : _) (r r' : _) (s s' : _) → rounds_wide.Post κs a r s → rounds_wide.Post κs a r' s'
     → (r ≡ r') × (s.0.now ≡ s'.0.now)
-rounds-wide-has-one-answer κs a r r' s s' p q = (p.0 ∙ sym q.0, p.1 ∙ sym q.1)
+rounds_wide_has_one_answer κs a r r' s s' p q = (p.0 ∙ sym q.0, p.1 ∙ sym q.1)
 
-pub rounds-back-wide-has-one-answer : (κs : _) (a : _) (r r' : _) (s s' : _) → rounds_back_wide.Post κs a r s → rounds_back_wide.Post κs a r' s'
+pub rounds_back_wide_has_one_answer : (κs : _) (a : _) (r r' : _) (s s' : _) → rounds_back_wide.Post κs a r s → rounds_back_wide.Post κs a r' s'
     → (r ≡ r') × (s.0.now ≡ s'.0.now)
-rounds-back-wide-has-one-answer κs a r r' s s' p q = (p.0 ∙ sym q.0, p.1 ∙ sym q.1)
+rounds_back_wide_has_one_answer κs a r r' s s' p q = (p.0 ∙ sym q.0, p.1 ∙ sym q.1)
 
-pub compress-wide-has-one-answer : (κs : _) (a : _) (r r' : _) (s s' : _) → compress_wide.Post κs a r s → compress_wide.Post κs a r' s'
+pub compress_wide_has_one_answer : (κs : _) (a : _) (r r' : _) (s s' : _) → compress_wide.Post κs a r s → compress_wide.Post κs a r' s'
     → (r ≡ r') × (s.1.0.now ≡ s'.1.0.now)
-compress-wide-has-one-answer κs a r r' s s' p q = (p.0 ∙ sym q.0, p.1 ∙ sym q.1)
+compress_wide_has_one_answer κs a r r' s s' p q = (p.0 ∙ sym q.0, p.1 ∙ sym q.1)
 
-pub open-has-one-answer : (κs : _) (a : _) (r r' : _) (s s' : _) → opening.Post κs a r s → opening.Post κs a r' s' → r ≡ r'
-open-has-one-answer κs a r r' s s' p q = p ∙ sym q
+pub open_has_one_answer : (κs : _) (a : _) (r r' : _) (s s' : _) → opening.Post κs a r s → opening.Post κs a r' s' → r ≡ r'
+open_has_one_answer κs a r r' s s' p q = p ∙ sym q
 
-pub is-session-has-one-answer : (κs : _) (a : _) (r r' : _) (s s' : _) → is_session.Post κs a r s → is_session.Post κs a r' s' → r ≡ r'
-is-session-has-one-answer κs a r r' s s' p q = p ∙ sym q
+pub is_session_has_one_answer : (κs : _) (a : _) (r r' : _) (s s' : _) → is_session.Post κs a r s → is_session.Post κs a r' s' → r ≡ r'
+is_session_has_one_answer κs a r r' s s' p q = p ∙ sym q
 
-pub add-has-one-answer : (κs : _) (a : _) (r r' : _) (s s' : _) → add.Post κs a r s → add.Post κs a r' s' → r ≡ r'
-add-has-one-answer κs a r r' s s' p q = p ∙ sym q
+pub add_has_one_answer : (κs : _) (a : _) (r r' : _) (s s' : _) → add.Post κs a r s → add.Post κs a r' s' → r ≡ r'
+add_has_one_answer κs a r r' s s' p q = p ∙ sym q
 
-pub add-bits-has-one-answer : (κs : _) (a : _) (r r' : _) (s s' : _) → add_bits.Post κs a r s → add_bits.Post κs a r' s' → r ≡ r'
-add-bits-has-one-answer κs a r r' s s' p q = p ∙ sym q
+pub add_bits_has_one_answer : (κs : _) (a : _) (r r' : _) (s s' : _) → add_bits.Post κs a r s → add_bits.Post κs a r' s' → r ≡ r'
+add_bits_has_one_answer κs a r r' s s' p q = p ∙ sym q
 
-pub read-has-one-answer : (κs : _) (a : _) (r r' : _) (s s' : _) → read.Post κs a r s → read.Post κs a r' s' → (r ≡ r') × (s.1.0.now ≡ s'.1.0.now)
-read-has-one-answer κs a r r' s s' p q = (p.0 ∙ sym q.0, p.1 ∙ sym q.1)
+pub read_has_one_answer : (κs : _) (a : _) (r r' : _) (s s' : _) → read.Post κs a r s → read.Post κs a r' s' → (r ≡ r') × (s.1.0.now ≡ s'.1.0.now)
+read_has_one_answer κs a r r' s s' p q = (p.0 ∙ sym q.0, p.1 ∙ sym q.1)
 
-pub digest-has-one-answer : (κs : _) (a : _) (r r' : _) (s s' : _) → digest.Post κs a r s → digest.Post κs a r' s'
+pub digest_has_one_answer : (κs : _) (a : _) (r r' : _) (s s' : _) → digest.Post κs a r s → digest.Post κs a r' s'
     → (r ≡ r') × (s.1.1.1.1.0.now ≡ s'.1.1.1.1.0.now)
-digest-has-one-answer κs a r r' s s' p q = (p.0 ∙ sym q.0, p.1 ∙ sym q.1)
+digest_has_one_answer κs a r r' s s' p q = (p.0 ∙ sym q.0, p.1 ∙ sym q.1)
 
-pub digest-bits-has-one-answer : (κs : _) (a : _) (r r' : _) (s s' : _) → digest_bits.Post κs a r s → digest_bits.Post κs a r' s'
+pub digest_bits_has_one_answer : (κs : _) (a : _) (r r' : _) (s s' : _) → digest_bits.Post κs a r s → digest_bits.Post κs a r' s'
     → (r ≡ r') × (s.1.1.1.1.1.0.now ≡ s'.1.1.1.1.1.0.now)
-digest-bits-has-one-answer κs a r r' s s' p q = (p.0 ∙ sym q.0, p.1 ∙ sym q.1)
+digest_bits_has_one_answer κs a r r' s s' p q = (p.0 ∙ sym q.0, p.1 ∙ sym q.1)
 
-pub digest-refusal-has-one-answer : (κs : _) (a : _) (r r' : _) (s s' : _) → digest_refusal.Post κs a r s → digest_refusal.Post κs a r' s' → r ≡ r'
-digest-refusal-has-one-answer κs a r r' s s' p q = p ∙ sym q
+pub digest_refusal_has_one_answer : (κs : _) (a : _) (r r' : _) (s s' : _) → digest_refusal.Post κs a r s → digest_refusal.Post κs a r' s' → r ≡ r'
+digest_refusal_has_one_answer κs a r r' s s' p q = p ∙ sym q

@@ -5,14 +5,14 @@ use Rattle.echo.specs.declared.mode.Mode.{Mode}
 use Rattle.echo.specs.declared.mode.Mode.TheVariants.{DoublePipe}
 use Rattle.echo.specs.declared.session.Answer.{Answer}
 use Rattle.echo.specs.declared.session.Session.{Session}
-use Rattle.echo.specs.Digest.{digestOf}
-use Rattle.echo.specs.Families.{blockSize, sizesFit}
+use Rattle.echo.specs.Digest.{digest_of}
+use Rattle.echo.specs.Families.{block_size, sizes_fit}
 use Rattle.echo.specs.Pieces.{joined}
 use Rattle.echo.specs.Placed.{Placed}
-use Rattle.echo.specs.Refusals.{◌when◌, counterTooHigh, first_of, noSalt, unless}
-use Rattle.echo.specs.Routines.{compressRefusal, compressWideRefusal}
-use Rattle.echo.specs.Session.{addAnswer, addBytes, admitted, bitLimit, blank, digestBitsRefusal, digestRefusal, isSession, limit, openAnswer, opened}
-use Rattle.echo.specs.Session.{otherSize, readAnswer, readLeaves, sessionDigest, setBelow}
+use Rattle.echo.specs.Refusals.{◌when◌, counter_too_high, first_of, no_salt, unless}
+use Rattle.echo.specs.Routines.{compress_refusal, compress_wide_refusal}
+use Rattle.echo.specs.Session.{add_answer, add_bytes, admitted, bit_limit, blank, digest_bits_refusal, digest_refusal, is_session, limit, open_answer, opened}
+use Rattle.echo.specs.Session.{other_size, read_answer, read_leaves, session_digest, set_below}
 use Rattle.echo.proofs.Laws.Continued as continued
 use Rattle.echo.proofs.Laws.Families as families
 use Rattle.echo.proofs.Laws.Kept as kept-by-adding
@@ -25,37 +25,37 @@ use Rattle.echo.proofs.Laws.Zeros as zeros
 
 -- ---- lengths and sizes
 
-pub admitted-256 : admitted 256 ≡ true
-admitted-256 = pieces.admitted-256
+pub admitted_256 : admitted 256 ≡ true
+admitted_256 = pieces.admitted_256
 
 -- the blocks of double-pipe in bytes
-pub double-block : (h : ℕ) → (128 ≤ blockSize DoublePipe h) × (blockSize DoublePipe h ≤ 192)
-double-block = families.double-block
+pub double_block : (h : ℕ) → (128 ≤ block_size DoublePipe h) × (block_size DoublePipe h ≤ 192)
+double_block = families.double_block
 
-pub block-short : (h : ℕ) → h ≤ 256 → 192 ≡ blockSize DoublePipe h
-block-short = families.block-short
+pub block_short : (h : ℕ) → h ≤ 256 → 192 ≡ block_size DoublePipe h
+block_short = families.block_short
 
-pub block-long : (h : ℕ) → 256 < h → 128 ≡ blockSize DoublePipe h
-block-long = families.block-long
+pub block_long : (h : ℕ) → 256 < h → 128 ≡ block_size DoublePipe h
+block_long = families.block_long
 
 -- too many bits are those whose whole bytes are too many
-pub too_many : (count : ℕ) → ltb bitLimit count ≡ ltb limit (count / 8)
+pub too_many : (count : ℕ) → ltb bit_limit count ≡ ltb limit (count / 8)
 too_many = refusals.too_many
 
 -- ---- what pieces join to
 
-pub joined-none : joined [] ≡ []
-joined-none = pieces.joined-none
+pub joined_none : joined [] ≡ []
+joined_none = pieces.joined_none
 
-pub joined-more : (piece : List ℕ) (pieces : List (List ℕ)) → joined (piece ∷ pieces) ≡ piece ++ joined pieces
-joined-more = pieces.joined-more
+pub joined_more : (piece : List ℕ) (pieces : List (List ℕ)) → joined (piece ∷ pieces) ≡ piece ++ joined pieces
+joined_more = pieces.joined_more
 
-pub joined-lengths : (xs ys : List (List ℕ)) → length (joined (xs ++ ys)) ≡ length (joined xs) + length (joined ys)
-joined-lengths = pieces.joined-lengths
+pub joined_lengths : (xs ys : List (List ℕ)) → length (joined (xs ++ ys)) ≡ length (joined xs) + length (joined ys)
+joined_lengths = pieces.joined_lengths
 
 -- w at the front of a room of which the rest is as it was
-pub placed-front : (room w r : List ℕ) (n : ℕ) → length w ≡ n → n ≤ length room → Placed room 0 w n r → r ≡ w ++ drop n room
-placed-front = placed.placed-front
+pub placed_front : (room w r : List ℕ) (n : ℕ) → length w ≡ n → n ≤ length room → Placed room 0 w n r → r ≡ w ++ drop n room
+placed_front = placed.placed_front
 
 -- ---- tests
 
@@ -73,115 +73,115 @@ kept n a b some = sym (refusals.refused n n a b refl some)
 
 -- ---- the refusals in order
 
-pub opening-number : (mode : Mode) (h : ℕ) (salt : List ℕ)
-    → (openAnswer mode h salt).refusal ≡ first_of ((1 when not (admitted h)) ∷ (2 when noSalt (length salt)) ∷ [])
-opening-number = pieces.opening-number
+pub opening_number : (mode : Mode) (h : ℕ) (salt : List ℕ)
+    → (open_answer mode h salt).refusal ≡ first_of ((1 when not (admitted h)) ∷ (2 when no_salt (length salt)) ∷ [])
+opening_number = pieces.opening_number
 
 -- the digest at once, of whole bytes and of bits
-pub digest-number : (bits salt message room : ℕ)
-    → digestRefusal bits salt message room
-    ≡ first_of ((1 when not (admitted bits)) ∷ (2 when noSalt salt) ∷ (4 when ltb limit message) ∷ (5 when ltb room (bits / 8)) ∷ [])
-digest-number = refusals.digest-number
+pub digest_number : (bits salt message room : ℕ)
+    → digest_refusal bits salt message room
+    ≡ first_of ((1 when not (admitted bits)) ∷ (2 when no_salt salt) ∷ (4 when ltb limit message) ∷ (5 when ltb room (bits / 8)) ∷ [])
+digest_number = refusals.digest_number
 
-pub digest-bits-number : (bits salt : ℕ) (message : List ℕ) (count room : ℕ)
-    → digestBitsRefusal bits salt message count room
+pub digest_bits_number : (bits salt : ℕ) (message : List ℕ) (count room : ℕ)
+    → digest_bits_refusal bits salt message count room
     ≡ first_of
     ((1 when not (admitted bits))
-    ∷ (2 when noSalt salt)
-    ∷ (4 when ltb bitLimit count)
+    ∷ (2 when no_salt salt)
+    ∷ (4 when ltb bit_limit count)
     ∷ (5 when ltb room (bits / 8))
-    ∷ (6 when otherSize (length message) count)
-    ∷ (17 when setBelow message count)
+    ∷ (6 when other_size (length message) count)
+    ∷ (17 when set_below message count)
     ∷ [])
-digest-bits-number = refusals.digest-bits-number
+digest_bits_number = refusals.digest_bits_number
 
-pub compress-number : (mode : Mode) (chaining block counter salt : ℕ)
-    → compressRefusal mode chaining block counter salt
-    ≡ first_of ((2 when noSalt salt) ∷ (6 when not (sizesFit mode chaining block)) ∷ (7 when counterTooHigh counter) ∷ [])
-compress-number = refusals.compress-number
+pub compress_number : (mode : Mode) (chaining block counter salt : ℕ)
+    → compress_refusal mode chaining block counter salt
+    ≡ first_of ((2 when no_salt salt) ∷ (6 when not (sizes_fit mode chaining block)) ∷ (7 when counter_too_high counter) ∷ [])
+compress_number = refusals.compress_number
 
-pub compress-wide-number : (mode : Mode) (chaining block salt : ℕ)
-    → compressWideRefusal mode chaining block salt ≡ first_of ((2 when noSalt salt) ∷ (6 when not (sizesFit mode chaining block)) ∷ [])
-compress-wide-number = refusals.compress-wide-number
+pub compress_wide_number : (mode : Mode) (chaining block salt : ℕ)
+    → compress_wide_refusal mode chaining block salt ≡ first_of ((2 when no_salt salt) ∷ (6 when not (sizes_fit mode chaining block)) ∷ [])
+compress_wide_number = refusals.compress_wide_number
 
 -- ---- an opening, and the session that it hands out
 
 -- no digest has 0 bits: such an opening hands the blank session out
-pub no-digest-of-0-bits : (mode : Mode) (salt : List ℕ) → (openAnswer mode 0 salt).session ≡ blank
-no-digest-of-0-bits = pieces.no-digest-of-0-bits
+pub no_digest_of_0_bits : (mode : Mode) (salt : List ℕ) → (open_answer mode 0 salt).session ≡ blank
+no_digest_of_0_bits = pieces.no_digest_of_0_bits
 
 module _ (mode : Mode) (h : ℕ) (salt : List ℕ) where
-  pub opens : admitted h ≡ true → length salt ≡ 16 → ◌≡◌ {A = Answer} (openAnswer mode h salt) (record { refusal = 0; session = opened mode h salt })
+  pub opens : admitted h ≡ true → length salt ≡ 16 → ◌≡◌ {A = Answer} (open_answer mode h salt) (record { refusal = 0; session = opened mode h salt })
   opens = pieces.opens mode h salt
 
-  pub opened-is-session : admitted h ≡ true → isSession (opened mode h salt) ≡ true
-  opened-is-session = opening.opened-is-session mode h salt
+  pub opened_is_session : admitted h ≡ true → is_session (opened mode h salt) ≡ true
+  opened_is_session = opening.opened_is_session mode h salt
 
-  pub opened-mode : (opened mode h salt).mode ≡ mode
-  opened-mode = opening.opened-mode mode h salt
+  pub opened_mode : (opened mode h salt).mode ≡ mode
+  opened_mode = opening.opened_mode mode h salt
 
-  pub opened-bits : (opened mode h salt).bits ≡ h
-  opened-bits = opening.opened-bits mode h salt
+  pub opened_bits : (opened mode h salt).bits ≡ h
+  opened_bits = opening.opened_bits mode h salt
 
   -- it has taken nothing
-  pub opened-taken : (opened mode h salt).taken ≡ 0
-  opened-taken = opening.opened-taken mode h salt
+  pub opened_taken : (opened mode h salt).taken ≡ 0
+  opened_taken = opening.opened_taken mode h salt
 
   -- of the bytes added to it, what is read is the digest
-  pub opened-digest : (m : List ℕ) → sessionDigest (addBytes (opened mode h salt) m) ≡ digestOf mode h salt m
-  opened-digest = opening.opened-digest mode h salt
+  pub opened_digest : (m : List ℕ) → session_digest (add_bytes (opened mode h salt) m) ≡ digest_of mode h salt m
+  opened_digest = opening.opened_digest mode h salt
 
 -- ---- adding whole bytes, to any session
 
-pub add_nothing : (s : Session) → addBytes s [] ≡ s
+pub add_nothing : (s : Session) → add_bytes s [] ≡ s
 add_nothing = opening.add_nothing
 
-pub add-pieces : (s : Session) (xs ys : List ℕ) → addBytes (addBytes s xs) ys ≡ addBytes s (xs ++ ys)
-add-pieces = opening.add-pieces
+pub add_pieces : (s : Session) (xs ys : List ℕ) → add_bytes (add_bytes s xs) ys ≡ add_bytes s (xs ++ ys)
+add_pieces = opening.add_pieces
 
-pub add-keeps : (s : Session) (xs : List ℕ) → ((addBytes s xs).bits ≡ s.bits) × ((addBytes s xs).salt ≡ s.salt) × ((addBytes s xs).mode ≡ s.mode)
-add-keeps = kept-by-adding.add-keeps
+pub add_keeps : (s : Session) (xs : List ℕ) → ((add_bytes s xs).bits ≡ s.bits) × ((add_bytes s xs).salt ≡ s.salt) × ((add_bytes s xs).mode ≡ s.mode)
+add_keeps = kept-by-adding.add_keeps
 
-pub add-counts : (s : Session) (xs : List ℕ) → (addBytes s xs).taken ≡ s.taken + 8 * length xs
-add-counts = kept-by-adding.add-counts
+pub add_counts : (s : Session) (xs : List ℕ) → (add_bytes s xs).taken ≡ s.taken + 8 * length xs
+add_counts = kept-by-adding.add_counts
 
 -- behind whole bytes, and within the limit
-pub add-is-session : (s : Session) (xs : List ℕ) → isSession s ≡ true → s.taken % 8 ≡ 0 → s.taken + 8 * length xs ≤ bitLimit
-    → isSession (addBytes s xs) ≡ true
-add-is-session = kept-by-adding.add-is-session
+pub add_is_session : (s : Session) (xs : List ℕ) → is_session s ≡ true → s.taken % 8 ≡ 0 → s.taken + 8 * length xs ≤ bit_limit
+    → is_session (add_bytes s xs) ≡ true
+add_is_session = kept-by-adding.add_is_session
 
-module _ (s : Session) (piece : List ℕ) (is : isSession s ≡ true) where
-  pub takes-bytes : s.taken % 8 ≡ 0 → s.taken + 8 * length piece ≤ bitLimit
-      → ◌≡◌ {A = Answer} (addAnswer s piece) (record { refusal = 0; session = addBytes s piece })
-  takes-bytes = pieces.takes-bytes s piece is
+module _ (s : Session) (piece : List ℕ) (is : is_session s ≡ true) where
+  pub takes_bytes : s.taken % 8 ≡ 0 → s.taken + 8 * length piece ≤ bit_limit
+      → ◌≡◌ {A = Answer} (add_answer s piece) (record { refusal = 0; session = add_bytes s piece })
+  takes_bytes = pieces.takes_bytes s piece is
 
-  pub refuses-bytes : bitLimit < s.taken + 8 * length piece → ◌≡◌ {A = Answer} (addAnswer s piece) (record { refusal = 4; session = s })
-  refuses-bytes = pieces.refuses-bytes s piece is
+  pub refuses_bytes : bit_limit < s.taken + 8 * length piece → ◌≡◌ {A = Answer} (add_answer s piece) (record { refusal = 4; session = s })
+  refuses_bytes = pieces.refuses_bytes s piece is
 
 -- ---- reading any session
 
-pub session-admits : (s : Session) → isSession s ≡ true → admitted s.bits ≡ true
-session-admits = sessions.session-admits
+pub session_admits : (s : Session) → is_session s ≡ true → admitted s.bits ≡ true
+session_admits = sessions.session_admits
 
 -- into room enough, and into less
-module _ (s : Session) (room : List ℕ) (is : isSession s ≡ true) where
-  pub reads-room : s.bits / 8 ≤ length room
-      → (◌≡◌ {A = Answer} (readAnswer s (length room)) (record { refusal = 0; session = s }))
-      × (readLeaves s room ≡ sessionDigest s ++ drop (s.bits / 8) room)
-  reads-room = pieces.reads-room s room is
+module _ (s : Session) (room : List ℕ) (is : is_session s ≡ true) where
+  pub reads_room : s.bits / 8 ≤ length room
+      → (◌≡◌ {A = Answer} (read_answer s (length room)) (record { refusal = 0; session = s }))
+      × (read_leaves s room ≡ session_digest s ++ drop (s.bits / 8) room)
+  reads_room = pieces.reads_room s room is
 
-  pub refuses-room : length room < s.bits / 8
-      → (◌≡◌ {A = Answer} (readAnswer s (length room)) (record { refusal = 5; session = s })) × (readLeaves s room ≡ room)
-  refuses-room = pieces.refuses-room s room is
+  pub refuses_room : length room < s.bits / 8
+      → (◌≡◌ {A = Answer} (read_answer s (length room)) (record { refusal = 5; session = s })) × (read_leaves s room ≡ room)
+  refuses_room = pieces.refuses_room s room is
 
 -- a digest that was read fits its room
-pub read_fits : (s : Session) (room : ℕ) → (readAnswer s room).refusal ≡ 0 → s.bits / 8 ≤ room
+pub read_fits : (s : Session) (room : ℕ) → (read_answer s room).refusal ≡ 0 → s.bits / 8 ≤ room
 read_fits = refusals.read_fits
 
 -- ---- how long digests are
 
-pub session-digest-long : (s : Session) → s.bits ≤ 512 → length (sessionDigest s) ≡ s.bits / 8
-session-digest-long = continued.session-digest-long
+pub session_digest_long : (s : Session) → s.bits ≤ 512 → length (session_digest s) ≡ s.bits / 8
+session_digest_long = continued.session_digest_long
 
-pub digest-long : (mode : Mode) (h : ℕ) (salt : List ℕ) → admitted h ≡ true → (m : List ℕ) → length (digestOf mode h salt m) ≡ h / 8
-digest-long = pieces.digest-long
+pub digest_long : (mode : Mode) (h : ℕ) (salt : List ℕ) → admitted h ≡ true → (m : List ℕ) → length (digest_of mode h salt m) ≡ h / 8
+digest_long = pieces.digest_long

@@ -5,5 +5,5 @@ use Rattle.std.proofs.Common.{◌≡◌, sym, ◌∙◌}
 use Rattle.echo.proofs.run_by_tables.run_by_tables.Reads as run_by_tables
 use Rattle.echo.proofs.run_by_bytes.run_by_bytes.Reads as run_by_bytes
 
-pub the-two-paths-agree : (κs : _) (a : _) (r r' : _) (s s' : _) → run_by_tables.Post κs a r s → run_by_bytes.Post κs a r' s' → s.0.now ≡ s'.0.now
-the-two-paths-agree κs a r r' s s' tables bytes = tables ∙ sym bytes
+pub the_two_paths_agree : (κs : _) (a : _) (r r' : _) (s s' : _) → run_by_tables.Post κs a r s → run_by_bytes.Post κs a r' s' → s.0.now ≡ s'.0.now
+the_two_paths_agree κs a r r' s s' tables bytes = tables ∙ sym bytes

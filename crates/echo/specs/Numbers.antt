@@ -3,8 +3,8 @@ use Rattle.std.specs.Prelude.{ℕ, ◌+◌, ◌*◌, ◌/◌, ◌%◌, ◌^◌, 
 use Rattle.aes_round.specs.Bytes.{tab}
 
 -- the n bytes of x, the least significant first
-unfoldable pub littleEndian : ℕ → ℕ → List ℕ
-littleEndian n x = tab n (λ i. x / 256 ^ i % 256)
+unfoldable pub little_endian : ℕ → ℕ → List ℕ
+little_endian n x = tab n (λ i. x / 256 ^ i % 256)
 
 -- the number of 128 bits whose lower and upper half these are
 abbrev pub halves : ℕ → ℕ → ℕ

@@ -33,9 +33,9 @@ unless zero done kept = done
 unless (suc n) done kept = kept
 
 -- 2: the salt is not 16 bytes
-abbrev pub noSalt : ℕ → Bool
-noSalt length = not (length == 16)
+abbrev pub no_salt : ℕ → Bool
+no_salt length = not (length == 16)
 
 -- 7: the starting counter is above 2^64 - 161
-abbrev pub counterTooHigh : ℕ → Bool
-counterTooHigh counter = nat_lt (2 ^ 64 - 161) counter
+abbrev pub counter_too_high : ℕ → Bool
+counter_too_high counter = nat_lt (2 ^ 64 - 161) counter

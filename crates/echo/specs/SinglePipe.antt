@@ -1,13 +1,13 @@
 -- Section 5 as it is printed, word by word. No contract cites it: the general compression, with a chaining variable of 32 and of 64 bytes, is proved equal
 -- to it. Assumes nothing.
 use Rattle.std.specs.Prelude.{ℕ, List, ◌++◌}
-use Rattle.aes_round.specs.Bytes.{xorBytes}
+use Rattle.aes_round.specs.Bytes.{xor_bytes}
 use Rattle.echo.specs.Square.{rounds, word}
 
 infixl 30 ◌⊕◌
 -- two words xored
 abbrev pub ◌⊕◌ : List ℕ → List ℕ → List ℕ
-a ⊕ b = xorBytes 16 a b
+a ⊕ b = xor_bytes 16 a b
 
 -- a row of the square as it is printed
 pub data Row : Type 0 where

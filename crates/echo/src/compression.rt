@@ -1,12 +1,12 @@
 // Compression (sections 3 to 5), over the size of the chaining variable.
 ghost use Rattle.std.specs.Prelude.{◌≡◌, ◌+◌, ◌*◌, ◌/◌, ◌^◌, ◌<◌, ◌≤◌, length};
-ghost use Rattle.aes_round.specs.Bytes.{xorBytes};
+ghost use Rattle.aes_round.specs.Bytes.{xor_bytes};
 ghost use Rattle.echo.specs.Compression.{fold};
 ghost use Rattle.echo.specs.Compression.{compress as Compression·compress};
-ghost use Rattle.echo.specs.Families.{roundCount};
+ghost use Rattle.echo.specs.Families.{round_count};
 ghost use Rattle.echo.specs.Numbers.{halves};
-ghost use Rattle.echo.specs.Routines.{compressLeaves, compressRefusal, compressWideLeaves, compressWideRefusal};
-ghost use Rattle.echo.specs.Square.{keysFrom, wideKeysFrom};
+ghost use Rattle.echo.specs.Routines.{compress_leaves, compress_refusal, compress_wide_leaves, compress_wide_refusal};
+ghost use Rattle.echo.specs.Square.{keys_from, wide_keys_from};
 
 use super::counter::Counter;
 use super::families::chaining_size;
@@ -18,7 +18,7 @@ use super::run::run;
 // Xors src into v.
 fn xor_in(v: &mut [u8], src: &[u8])
     requires { length src.now ≡ length v.old }
-    ensures { v.new ≡ xorBytes (length v.old) v.old src.now }
+    ensures { v.new ≡ xor_bytes (length v.old) v.old src.now }
 {
     let n = v.len();
     for k in 0..n {
@@ -30,7 +30,7 @@ fn xor_in(v: &mut [u8], src: &[u8])
 fn fold_in(v: &mut [u8], src: &[u8], parts: usize)
     requires v_nonzero { 0 < length v.old }
     requires src_len { length src.now ≡ length v.old * parts }
-    ensures { v.new ≡ xorBytes (length v.old) v.old (fold (length v.old) src.now) }
+    ensures { v.new ≡ xor_bytes (length v.old) v.old (fold (length v.old) src.now) }
 {
     let c = v.len();
     for j in 0..parts {
@@ -46,7 +46,7 @@ fn compress_wide_in(chaining: &mut [u8], block: &[u8], count: u64, counter: Coun
     requires block_len { length chaining.old + length block.now ≡ 256 }
     requires value { 256 ≡ length chaining.old * (256 / length chaining.old) }
     requires count_bound { 16 * count ≤ 2 ^ 64 }
-    ensures { chaining.new ≡ Compression·compress (length chaining.old) count (wideKeysFrom (halves counter.low counter.high)) salt chaining.old block.now }
+    ensures { chaining.new ≡ Compression·compress (length chaining.old) count (wide_keys_from (halves counter.low counter.high)) salt chaining.old block.now }
 {
     let c = chaining.len();
     let parts = 256 / c;
@@ -70,7 +70,7 @@ pub(crate) fn compress_in(
     requires block_len { length chaining.old + length block.now ≡ 256 }
     requires value { 256 ≡ length chaining.old * (256 / length chaining.old) }
     requires count_bound { counter + 16 * count ≤ 2 ^ 64 }
-    ensures { chaining.new ≡ Compression·compress (length chaining.old) count (keysFrom counter) salt chaining.old block.now }
+    ensures { chaining.new ≡ Compression·compress (length chaining.old) count (keys_from counter) salt chaining.old block.now }
 {
     let start = Counter {
         low: counter,
@@ -81,7 +81,7 @@ pub(crate) fn compress_in(
 
 // The rounds of a mode for a chaining variable of that size.
 pub(crate) fn round_count(mode: Mode, chaining: usize) -> u64
-    ensures { result ≡ roundCount mode chaining }
+    ensures { result ≡ round_count mode chaining }
 {
     if chaining == chaining_size(mode, 256) {
         8
@@ -100,8 +100,8 @@ pub fn compress_wide(
     high: u64,
     salt: &[u8],
 ) -> u8
-    ensures refusal { result ≡ compressWideRefusal mode (length chaining.old) (length block.now) (length salt.now) }
-    ensures left { chaining.new ≡ compressWideLeaves mode chaining.old block.now (halves low high) salt.now }
+    ensures refusal { result ≡ compress_wide_refusal mode (length chaining.old) (length block.now) (length salt.now) }
+    ensures left { chaining.new ≡ compress_wide_leaves mode chaining.old block.now (halves low high) salt.now }
 {
     let c = chaining.len();
     let refusal = compress_wide_refusal(mode, c, block.len(), salt.len());
@@ -120,8 +120,8 @@ pub fn compress_wide(
 
 // From a counter of 64 bits: `compress_wide` with the upper half zero, behind a bound on the counter, above which it refuses by 7.
 pub fn compress(mode: Mode, chaining: &mut [u8], block: &[u8], counter: u64, salt: &[u8]) -> u8
-    ensures refusal { result ≡ compressRefusal mode (length chaining.old) (length block.now) counter (length salt.now) }
-    ensures left { chaining.new ≡ compressLeaves mode chaining.old block.now counter salt.now }
+    ensures refusal { result ≡ compress_refusal mode (length chaining.old) (length block.now) counter (length salt.now) }
+    ensures left { chaining.new ≡ compress_leaves mode chaining.old block.now counter salt.now }
 {
     let refusal = compress_refusal(mode, chaining.len(), block.len(), counter, salt.len());
     if refusal != 0 {

@@ -1,6 +1,6 @@
 // The digest of a whole message.
 ghost use Rattle.std.specs.Prelude.{◌≡◌, length};
-ghost use Rattle.echo.specs.Session.{digestBitsLeaves, digestBitsRefusal, digestLeaves, digestRefusal};
+ghost use Rattle.echo.specs.Session.{digest_bits_leaves, digest_bits_refusal, digest_leaves, digest_refusal};
 
 use super::mode::Mode;
 use super::refusals::{digest_bits_refusal, digest_refusal};
@@ -16,8 +16,8 @@ pub fn digest_bits(
     count: u64,
     out: &mut [u8],
 ) -> u8
-    ensures refusal { result ≡ digestBitsRefusal bits (length salt.now) message.now count (length out.old) }
-    ensures left { out.new ≡ digestBitsLeaves mode bits salt.now message.now count out.old }
+    ensures refusal { result ≡ digest_bits_refusal bits (length salt.now) message.now count (length out.old) }
+    ensures left { out.new ≡ digest_bits_leaves mode bits salt.now message.now count out.old }
 {
     let refusal = digest_bits_refusal(bits, salt.len(), message, count, out.len());
     if refusal != 0 {
@@ -33,8 +33,8 @@ pub fn digest_bits(
 
 // The same of a message of whole bytes; or a refusal by 1, 2, 4 or 5.
 pub fn digest(mode: Mode, bits: u64, salt: &[u8], message: &[u8], out: &mut [u8]) -> u8
-    ensures refusal { result ≡ digestRefusal bits (length salt.now) (length message.now) (length out.old) }
-    ensures left { out.new ≡ digestLeaves mode bits salt.now message.now out.old }
+    ensures refusal { result ≡ digest_refusal bits (length salt.now) (length message.now) (length out.old) }
+    ensures left { out.new ≡ digest_leaves mode bits salt.now message.now out.old }
 {
     let refusal = digest_refusal(bits, salt.len(), message.len(), out.len());
     if refusal != 0 {

@@ -1,6 +1,6 @@
 // What the mode and the digest length fix.
 ghost use Rattle.std.specs.Prelude.{◌≡◌};
-ghost use Rattle.echo.specs.Families.{blockSize, chainingSize};
+ghost use Rattle.echo.specs.Families.{block_size, chaining_size};
 ghost use Rattle.echo.specs.Session.{admitted as Session·admitted};
 
 use super::mode::Mode;
@@ -18,7 +18,7 @@ pub(crate) fn admitted(bits: u64) -> bool
 }
 
 pub(crate) fn chaining_size(mode: Mode, bits: u64) -> usize
-    ensures { result ≡ chainingSize mode bits }
+    ensures { result ≡ chaining_size mode bits }
 {
     match mode {
         Mode::DoublePipe => if bits <= 256 { 64 } else { 128 },
@@ -28,7 +28,7 @@ pub(crate) fn chaining_size(mode: Mode, bits: u64) -> usize
 
 // The rest of the square.
 pub(crate) fn block_size(mode: Mode, bits: u64) -> usize
-    ensures { result ≡ blockSize mode bits }
+    ensures { result ≡ block_size mode bits }
 {
     256 - chaining_size(mode, bits)
 }

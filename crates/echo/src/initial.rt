@@ -1,7 +1,7 @@
 // The chaining variable that a digest begins with.
 ghost use Rattle.std.specs.Prelude.{◌≡◌, ◌-◌, ◌/◌, ◌%◌, ◌^◌, ◌≤◌, ◌++◌, replicate};
 ghost use Rattle.echo.specs.Digest.{initial as Digest·initial};
-ghost use Rattle.echo.specs.Families.{chainingSize};
+ghost use Rattle.echo.specs.Families.{chaining_size};
 
 use super::families::chaining_size;
 use super::mode::Mode;
@@ -23,7 +23,7 @@ fn length_byte(bits: u64, i: usize) -> u8
 // The initial chaining variable, in room for the longer one: each word is the digest length.
 pub(crate) fn initial(mode: Mode, bits: u64) -> [u8; 128]
     requires { bits ≤ 512 }
-    ensures { result ≡ Digest·initial (chainingSize mode bits) bits ++ replicate (128 - chainingSize mode bits) 0 }
+    ensures { result ≡ Digest·initial (chaining_size mode bits) bits ++ replicate (128 - chaining_size mode bits) 0 }
 {
     let c = chaining_size(mode, bits);
     let mut v = [0u8; 128];

@@ -1,9 +1,9 @@
 // The blocks of padding at the end of a message.
 ghost use Rattle.std.specs.Prelude.{◌≡◌, ◌-◌, ◌*◌, ◌%◌, ◌^◌, ◌≤◌, true, ◌++◌, length, take, drop, ◌==◌};
 ghost use Rattle.echo.specs.Bits.{bits_of};
-ghost use Rattle.echo.specs.Families.{blockSize, chainingSize, either};
-ghost use Rattle.echo.specs.Numbers.{littleEndian};
-ghost use Rattle.echo.specs.Session.{allZero, bitLimit, compressed, finalChaining, made};
+ghost use Rattle.echo.specs.Families.{block_size, chaining_size, either};
+ghost use Rattle.echo.specs.Numbers.{little_endian};
+ghost use Rattle.echo.specs.Session.{all_zero, bit_limit, compressed, final_chaining, made};
 
 use super::bits::marked;
 use super::families::block_size;
@@ -14,7 +14,7 @@ use super::waiting::{clear, compress_waiting};
 // The last eighteen bytes of the padding: the digest length in two bytes and the message's bit count in sixteen.
 fn lengths(bits: u64, taken: u64) -> [u8; 18]
     requires { bits ≤ 512 }
-    ensures { result ≡ littleEndian 2 bits ++ littleEndian 16 taken }
+    ensures { result ≡ little_endian 2 bits ++ little_endian 16 taken }
 {
     [
         (bits % 0x100) as u8,
@@ -59,7 +59,7 @@ fn close(
     requires waiting_len { length waiting.old ≡ 224 }
     requires counter_bound { counter ≤ 2 ^ 64 - 161 }
     requires bits_bound { bits ≤ 512 }
-    ensures { chaining.new ≡ compressed mode bits salt chaining.old counter (take (blockSize mode bits - 18) waiting.old ++ (littleEndian 2 bits ++ littleEndian 16 taken)) }
+    ensures { chaining.new ≡ compressed mode bits salt chaining.old counter (take (block_size mode bits - 18) waiting.old ++ (little_endian 2 bits ++ little_endian 16 taken)) }
 {
     let at = block_size(mode, bits) - 18;
     let end = lengths(bits, taken);
@@ -78,10 +78,10 @@ pub(crate) fn finish(
 )
     requires chaining_len { length chaining.old ≡ 128 }
     requires waiting_len { length waiting.old ≡ 224 }
-    requires waiting_value { allZero (drop (taken % (8 * blockSize mode bits)) (bits_of waiting.old)) ≡ true }
+    requires waiting_value { all_zero (drop (taken % (8 * block_size mode bits)) (bits_of waiting.old)) ≡ true }
     requires bits_bound { bits ≤ 512 }
-    requires taken_le_bit_limit { taken ≤ bitLimit }
-    ensures { take (chainingSize mode bits) chaining.new ≡ finalChaining (made mode bits salt chaining.old taken waiting.old) }
+    requires taken_le_bit_limit { taken ≤ bit_limit }
+    ensures { take (chaining_size mode bits) chaining.new ≡ final_chaining (made mode bits salt chaining.old taken waiting.old) }
 {
     let b = block_size(mode, bits);
     let at = (taken / 8 % (b as u64)) as usize;

@@ -1,12 +1,12 @@
 // BIG.MixColumns (section 3.3) and its way back: each column of four words, at each of its sixteen byte positions.
 ghost use Rattle.std.specs.Prelude.{◌≡◌, length};
 ghost use Rattle.aes_round.specs.Mixing.{backward, forward};
-ghost use Rattle.echo.specs.Square.{bigMixColumns, bigMixColumnsBack, mixWords};
+ghost use Rattle.echo.specs.Square.{big_mix_columns, big_mix_columns_back, mix_words};
 
 // Four words, one after the other.
 fn mix_words(c: &mut [u8])
     requires { length c.old ≡ 64 }
-    ensures { c.new ≡ mixWords forward c.old }
+    ensures { c.new ≡ mix_words forward c.old }
 {
     for b in 0..16 {
         let m = aes_round::mix([c[b], c[16 + b], c[32 + b], c[48 + b]]);
@@ -19,7 +19,7 @@ fn mix_words(c: &mut [u8])
 
 fn mix_words_back(c: &mut [u8])
     requires { length c.old ≡ 64 }
-    ensures { c.new ≡ mixWords backward c.old }
+    ensures { c.new ≡ mix_words backward c.old }
 {
     for b in 0..16 {
         let m = aes_round::mix_back([c[b], c[16 + b], c[32 + b], c[48 + b]]);
@@ -32,7 +32,7 @@ fn mix_words_back(c: &mut [u8])
 
 pub(crate) fn mix_columns(s: &mut [u8])
     requires { length s.old ≡ 256 }
-    ensures { s.new ≡ bigMixColumns s.old }
+    ensures { s.new ≡ big_mix_columns s.old }
 {
     for j in 0..4 {
         let at = 64 * j;
@@ -43,7 +43,7 @@ pub(crate) fn mix_columns(s: &mut [u8])
 
 pub(crate) fn mix_columns_back(s: &mut [u8])
     requires { length s.old ≡ 256 }
-    ensures { s.new ≡ bigMixColumnsBack s.old }
+    ensures { s.new ≡ big_mix_columns_back s.old }
 {
     for j in 0..4 {
         let at = 64 * j;

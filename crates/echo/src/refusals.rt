@@ -1,8 +1,8 @@
 // Which refusal comes first.
 ghost use Rattle.std.specs.Prelude.{◌≡◌, ◌||◌, ◌==◌};
-ghost use Rattle.echo.specs.Families.{sizesFit};
-ghost use Rattle.echo.specs.Routines.{compressRefusal, compressWideRefusal, roundsRefusal, roundsWideRefusal};
-ghost use Rattle.echo.specs.Session.{digestBitsRefusal, digestRefusal};
+ghost use Rattle.echo.specs.Families.{sizes_fit};
+ghost use Rattle.echo.specs.Routines.{compress_refusal, compress_wide_refusal, rounds_refusal, rounds_wide_refusal};
+ghost use Rattle.echo.specs.Session.{digest_bits_refusal, digest_refusal};
 
 use super::bits::zero_bits_from;
 use super::families::{admitted, block_size, chaining_size};
@@ -27,7 +27,7 @@ fn is_round_count(count: u64) -> bool
 }
 
 fn sizes_fit(mode: Mode, chaining: usize, block: usize) -> bool
-    ensures { result ≡ sizesFit mode chaining block }
+    ensures { result ≡ sizes_fit mode chaining block }
 {
     if chaining == chaining_size(mode, 256) {
         return block == block_size(mode, 256);
@@ -40,7 +40,7 @@ fn sizes_fit(mode: Mode, chaining: usize, block: usize) -> bool
 
 // What a run of rounds is refused for whatever its counter, 0 for nothing.
 pub(crate) fn rounds_wide_refusal(square: usize, count: u64, salt: usize) -> u8
-    ensures { result ≡ roundsWideRefusal square count salt }
+    ensures { result ≡ rounds_wide_refusal square count salt }
 {
     if salt != 16 {
         return 2;
@@ -56,7 +56,7 @@ pub(crate) fn rounds_wide_refusal(square: usize, count: u64, salt: usize) -> u8
 
 // The same with a counter of 64 bits.
 pub(crate) fn rounds_refusal(square: usize, count: u64, counter: u64, salt: usize) -> u8
-    ensures { result ≡ roundsRefusal square count counter salt }
+    ensures { result ≡ rounds_refusal square count counter salt }
 {
     let refusal = rounds_wide_refusal(square, count, salt);
     if refusal != 0 {
@@ -70,7 +70,7 @@ pub(crate) fn rounds_refusal(square: usize, count: u64, counter: u64, salt: usiz
 
 // What a compression is refused for whatever its counter, 0 for nothing.
 pub(crate) fn compress_wide_refusal(mode: Mode, chaining: usize, block: usize, salt: usize) -> u8
-    ensures { result ≡ compressWideRefusal mode chaining block salt }
+    ensures { result ≡ compress_wide_refusal mode chaining block salt }
 {
     if salt != 16 {
         return 2;
@@ -89,7 +89,7 @@ pub(crate) fn compress_refusal(
     counter: u64,
     salt: usize,
 ) -> u8
-    ensures { result ≡ compressRefusal mode chaining block counter salt }
+    ensures { result ≡ compress_refusal mode chaining block counter salt }
 {
     let refusal = compress_wide_refusal(mode, chaining, block, salt);
     if refusal != 0 {
@@ -103,7 +103,7 @@ pub(crate) fn compress_refusal(
 
 // What a digest at once is refused for in either mode, 0 for nothing, by the lengths of salt, message and room.
 pub fn digest_refusal(bits: u64, salt: usize, message: usize, room: usize) -> u8
-    ensures { result ≡ digestRefusal bits salt message room }
+    ensures { result ≡ digest_refusal bits salt message room }
 {
     if !admitted(bits) {
         return 1;
@@ -129,7 +129,7 @@ pub(crate) fn digest_bits_refusal(
     count: u64,
     room: usize,
 ) -> u8
-    ensures { result ≡ digestBitsRefusal bits salt message.now count room }
+    ensures { result ≡ digest_bits_refusal bits salt message.now count room }
 {
     let refusal = digest_refusal(bits, salt, (count / 8) as usize, room);
     if refusal != 0 {

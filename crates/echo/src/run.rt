@@ -1,9 +1,9 @@
 // Runs of BIG.Round, forward and backward.
 ghost use Rattle.std.specs.Prelude.{◌≡◌, ◌*◌, ◌^◌, ◌≤◌, length};
 ghost use Rattle.echo.specs.Numbers.{halves};
-ghost use Rattle.echo.specs.Routines.{roundsBackLeave, roundsBackWideLeave, roundsLeave, roundsRefusal, roundsWideLeave, roundsWideRefusal};
-ghost use Rattle.echo.specs.Square.{wideKeysFrom};
-ghost use Rattle.echo.specs.Square.{rounds as Square·rounds, roundsBack as Square·roundsBack};
+ghost use Rattle.echo.specs.Routines.{rounds_back_leave, rounds_back_wide_leave, rounds_leave, rounds_refusal, rounds_wide_leave, rounds_wide_refusal};
+ghost use Rattle.echo.specs.Square.{wide_keys_from};
+ghost use Rattle.echo.specs.Square.{rounds as Square·rounds, rounds_back as Square·roundsBack};
 
 use super::counter::Counter;
 use super::lent::sixteen;
@@ -19,7 +19,7 @@ use super::sub_words::sub_words_back;
 pub(crate) fn run(s: &mut [u8], count: u64, counter: Counter, salt: [u8; 16])
     requires s_len { length s.old ≡ 256 }
     requires count_bound { 16 * count ≤ 2 ^ 64 }
-    ensures { s.new ≡ Square·rounds count (wideKeysFrom (halves counter.low counter.high)) salt s.old }
+    ensures { s.new ≡ Square·rounds count (wide_keys_from (halves counter.low counter.high)) salt s.old }
 {
     run_by_tables(s, count, counter, salt);
 }
@@ -27,7 +27,7 @@ pub(crate) fn run(s: &mut [u8], count: u64, counter: Counter, salt: [u8; 16])
 fn run_back(s: &mut [u8], count: u64, counter: Counter, salt: [u8; 16])
     requires s_len { length s.old ≡ 256 }
     requires count_bound { 16 * count ≤ 2 ^ 64 }
-    ensures { s.new ≡ Square·roundsBack count (wideKeysFrom (halves counter.low counter.high)) salt s.old }
+    ensures { s.new ≡ Square·roundsBack count (wide_keys_from (halves counter.low counter.high)) salt s.old }
 {
     let mut left = count;
     while 0 < left {
@@ -41,8 +41,8 @@ fn run_back(s: &mut [u8], count: u64, counter: Counter, salt: [u8; 16])
 // Rewrites the square by 8 or 10 rounds that count on from the counter of these halves, modulo 2^128, and answers 0; or refuses by 2 or 6 and
 // leaves it.
 pub fn rounds_wide(square: &mut [u8], count: u64, low: u64, high: u64, salt: &[u8]) -> u8
-    ensures refusal { result ≡ roundsWideRefusal (length square.old) count (length salt.now) }
-    ensures left { square.new ≡ roundsWideLeave square.old count (halves low high) salt.now }
+    ensures refusal { result ≡ rounds_wide_refusal (length square.old) count (length salt.now) }
+    ensures left { square.new ≡ rounds_wide_leave square.old count (halves low high) salt.now }
 {
     let refusal = rounds_wide_refusal(square.len(), count, salt.len());
     if refusal != 0 {
@@ -54,8 +54,8 @@ pub fn rounds_wide(square: &mut [u8], count: u64, low: u64, high: u64, salt: &[u
 
 // The way back: the square that `rounds_wide` took to this one, for the same count, starting counter and salt.
 pub fn rounds_back_wide(square: &mut [u8], count: u64, low: u64, high: u64, salt: &[u8]) -> u8
-    ensures refusal { result ≡ roundsWideRefusal (length square.old) count (length salt.now) }
-    ensures left { square.new ≡ roundsBackWideLeave square.old count (halves low high) salt.now }
+    ensures refusal { result ≡ rounds_wide_refusal (length square.old) count (length salt.now) }
+    ensures left { square.new ≡ rounds_back_wide_leave square.old count (halves low high) salt.now }
 {
     let refusal = rounds_wide_refusal(square.len(), count, salt.len());
     if refusal != 0 {
@@ -67,8 +67,8 @@ pub fn rounds_back_wide(square: &mut [u8], count: u64, low: u64, high: u64, salt
 
 // From a counter of 64 bits: `rounds_wide` with the upper half zero, behind a bound on the counter, above which it refuses by 7.
 pub fn rounds(square: &mut [u8], count: u64, counter: u64, salt: &[u8]) -> u8
-    ensures refusal { result ≡ roundsRefusal (length square.old) count counter (length salt.now) }
-    ensures left { square.new ≡ roundsLeave square.old count counter salt.now }
+    ensures refusal { result ≡ rounds_refusal (length square.old) count counter (length salt.now) }
+    ensures left { square.new ≡ rounds_leave square.old count counter salt.now }
 {
     let refusal = rounds_refusal(square.len(), count, counter, salt.len());
     if refusal != 0 {
@@ -79,8 +79,8 @@ pub fn rounds(square: &mut [u8], count: u64, counter: u64, salt: &[u8]) -> u8
 
 // The same byte by byte, whichever path `rounds` takes: slower, and with a sixth of the stack.
 pub fn rounds_by_bytes(square: &mut [u8], count: u64, counter: u64, salt: &[u8]) -> u8
-    ensures refusal { result ≡ roundsRefusal (length square.old) count counter (length salt.now) }
-    ensures left { square.new ≡ roundsLeave square.old count counter salt.now }
+    ensures refusal { result ≡ rounds_refusal (length square.old) count counter (length salt.now) }
+    ensures left { square.new ≡ rounds_leave square.old count counter salt.now }
 {
     let refusal = rounds_refusal(square.len(), count, counter, salt.len());
     if refusal != 0 {
@@ -96,8 +96,8 @@ pub fn rounds_by_bytes(square: &mut [u8], count: u64, counter: u64, salt: &[u8])
 
 // The way back: the square that `rounds` took to this one, for the same count, starting counter and salt; `rounds_back_wide` likewise.
 pub fn rounds_back(square: &mut [u8], count: u64, counter: u64, salt: &[u8]) -> u8
-    ensures refusal { result ≡ roundsRefusal (length square.old) count counter (length salt.now) }
-    ensures left { square.new ≡ roundsBackLeave square.old count counter salt.now }
+    ensures refusal { result ≡ rounds_refusal (length square.old) count counter (length salt.now) }
+    ensures left { square.new ≡ rounds_back_leave square.old count counter salt.now }
 {
     let refusal = rounds_refusal(square.len(), count, counter, salt.len());
     if refusal != 0 {

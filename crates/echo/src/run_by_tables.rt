@@ -1,10 +1,10 @@
 // Runs of BIG.Round by tables: the square is 64 numbers of 32 bits from the first round to the last, and a round is two steps on them.
 ghost use Rattle.std.specs.Prelude.{◌≡◌, ◌+◌, ◌*◌, ◌^◌, ◌<◌, ◌≤◌, length};
-ghost use Rattle.aes_round.specs.ByTables.{rowTable};
+ghost use Rattle.aes_round.specs.ByTables.{row_table};
 ghost use Rattle.aes_round.specs.Numbers.{bytes_of, numbers};
-ghost use Rattle.aes_round.specs.Rounds.{aesRound};
+ghost use Rattle.aes_round.specs.Rounds.{aes_round};
 ghost use Rattle.echo.specs.Numbers.{halves};
-ghost use Rattle.echo.specs.Square.{bigMixColumns, bigShiftRows, bigSubWords, wideKeysFrom};
+ghost use Rattle.echo.specs.Square.{big_mix_columns, big_shift_rows, big_sub_words, wide_keys_from};
 ghost use Rattle.echo.specs.Square.{rounds as Square·rounds};
 
 use super::counter::{Counter, count_on};
@@ -21,11 +21,11 @@ fn word_by_tables(
     number: u64,
     salt: [u32; 4],
 ) -> [u32; 4]
-    requires t_value { t.now ≡ rowTable 0 }
-    requires u_value { u.now ≡ rowTable 1 }
-    requires v_value { v.now ≡ rowTable 2 }
-    requires w_value { w.now ≡ rowTable 3 }
-    ensures { result ≡ numbers 4 (aesRound (aesRound (bytes_of 4 word) (wideKeysFrom (halves counter.low counter.high) number)) (bytes_of 4 salt)) }
+    requires t_value { t.now ≡ row_table 0 }
+    requires u_value { u.now ≡ row_table 1 }
+    requires v_value { v.now ≡ row_table 2 }
+    requires w_value { w.now ≡ row_table 3 }
+    ensures { result ≡ numbers 4 (aes_round (aes_round (bytes_of 4 word) (wide_keys_from (halves counter.low counter.high) number)) (bytes_of 4 salt)) }
 {
     let at = count_on(counter, number);
     let low = at.low;
@@ -51,12 +51,12 @@ fn sub_numbers(
     first: u64,
     salt: [u32; 4],
 ) -> [u32; 64]
-    requires t_value { t.now ≡ rowTable 0 }
-    requires u_value { u.now ≡ rowTable 1 }
-    requires v_value { v.now ≡ rowTable 2 }
-    requires w_value { w.now ≡ rowTable 3 }
+    requires t_value { t.now ≡ row_table 0 }
+    requires u_value { u.now ≡ row_table 1 }
+    requires v_value { v.now ≡ row_table 2 }
+    requires w_value { w.now ≡ row_table 3 }
     requires first_bound { first + 15 < 2 ^ 64 }
-    ensures { result ≡ numbers 64 (bigSubWords (λ i. wideKeysFrom (halves counter.low counter.high) (first + i)) (bytes_of 4 salt) (bytes_of 64 s)) }
+    ensures { result ≡ numbers 64 (big_sub_words (λ i. wide_keys_from (halves counter.low counter.high) (first + i)) (bytes_of 4 salt) (bytes_of 64 s)) }
 {
     let mut r = s;
     for i in 0..16 {
@@ -78,7 +78,7 @@ fn sub_numbers(
 // further on. With the columns of the square in the inner loop the compiler does four of them at once too; the other way round a digest takes a
 // sixth longer.
 fn shift_and_mix(s: [u32; 64]) -> [u32; 64]
-    ensures { result ≡ numbers 64 (bigMixColumns (bigShiftRows (bytes_of 64 s))) }
+    ensures { result ≡ numbers 64 (big_mix_columns (big_shift_rows (bytes_of 64 s))) }
 {
     let mut r = [0u32; 64];
     for j in 0..4 {
@@ -101,7 +101,7 @@ fn shift_and_mix(s: [u32; 64]) -> [u32; 64]
 pub(crate) fn run_by_tables(s: &mut [u8], count: u64, counter: Counter, salt: [u8; 16])
     requires s_len { length s.old ≡ 256 }
     requires count_bound { 16 * count ≤ 2 ^ 64 }
-    ensures { s.new ≡ Square·rounds count (wideKeysFrom (halves counter.low counter.high)) salt s.old }
+    ensures { s.new ≡ Square·rounds count (wide_keys_from (halves counter.low counter.high)) salt s.old }
 {
     let tables = aes_round::row_tables();
     let t = tables.row_0;

@@ -1,6 +1,6 @@
 // Sessions: a digest over the pieces of a message.
 ghost use Rattle.std.specs.Prelude.{◌≡◌, length};
-ghost use Rattle.echo.specs.Session.{addAnswer, addBitsAnswer, addBitsRefusal, behindPart, blank, isSession, openAnswer, readAnswer, readLeaves};
+ghost use Rattle.echo.specs.Session.{add_answer, add_bits_answer, add_bits_refusal, behind_part, blank, is_session, open_answer, read_answer, read_leaves};
 
 use super::bits::zero_bits_from;
 use super::families::{admitted, block_size, chaining_size};
@@ -35,7 +35,7 @@ pub struct Answer {
 
 // Whether so many bits would stand behind a part byte.
 fn behind_part(taken: u64, count: u64) -> bool
-    ensures { result ≡ behindPart taken count }
+    ensures { result ≡ behind_part taken count }
 {
     if taken % 8 == 0 {
         return false;
@@ -60,7 +60,7 @@ impl Session {
 
     // A session for digests of so many bits in a mode under a salt; or the blank one with 1 (bits not admitted) or 2 (salt not 16 bytes).
     pub fn open(mode: Mode, bits: u64, salt: &[u8]) -> Answer
-        ensures { result ≡ openAnswer mode bits salt.now }
+        ensures { result ≡ open_answer mode bits salt.now }
     {
         if !admitted(bits) {
             let none = Session::blank();
@@ -94,7 +94,7 @@ impl Session {
 
     // Whether the record is a session.
     pub fn is_session(self) -> bool
-        ensures { result ≡ isSession self }
+        ensures { result ≡ is_session self }
     {
         let mode = self.mode;
         let bits = self.bits;
@@ -116,7 +116,7 @@ impl Session {
 
     // What adding so many bits of a piece is refused for, 0 for nothing.
     fn add_bits_refusal(self, piece: &[u8], count: u64) -> u8
-        ensures { result ≡ addBitsRefusal self piece.now count }
+        ensures { result ≡ add_bits_refusal self piece.now count }
     {
         if !self.is_session() {
             return 3;
@@ -140,7 +140,7 @@ impl Session {
     // The session with so many bits, the first of the piece's bytes, joined to its message; or the same with 3 (no session), 4 (too long), 6
     // (bytes that are not the bit count over 8, rounded up), 16 (a piece behind a part byte) or 17 (a set bit below the last one used).
     pub fn add_bits(self, piece: &[u8], count: u64) -> Answer
-        ensures { result ≡ addBitsAnswer self piece.now count }
+        ensures { result ≡ add_bits_answer self piece.now count }
     {
         let refusal = self.add_bits_refusal(piece, count);
         if refusal != 0 {
@@ -172,7 +172,7 @@ impl Session {
     // The session with a piece of whole bytes joined to its message, or the same with 3 (no session), 4 (too long) or 16 (a piece behind a part
     // byte).
     pub fn add(self, piece: &[u8]) -> Answer
-        ensures { result ≡ addAnswer self piece.now }
+        ensures { result ≡ add_answer self piece.now }
     {
         let n = piece.len() as u64;
         if LIMIT < n {
@@ -193,8 +193,8 @@ impl Session {
     // The digest of the message so far, at the front of `out`, whose bytes behind it stay; or 3 (no session) or 5 (too little room) and
     // nothing written. The session is handed back as it came.
     pub fn read(self, out: &mut [u8]) -> Answer
-        ensures answer { result ≡ readAnswer self (length out.old) }
-        ensures left { out.new ≡ readLeaves self out.old }
+        ensures answer { result ≡ read_answer self (length out.old) }
+        ensures left { out.new ≡ read_leaves self out.old }
     {
         if !self.is_session() {
             return Answer {

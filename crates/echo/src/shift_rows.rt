@@ -1,7 +1,7 @@
 // BIG.ShiftRows (section 3.2) and its way back: whole words are moved along the rows of the square, in place, with one spare word.
 ghost use Rattle.std.specs.Prelude.{◌≡◌, ℕ, ◌+◌, ◌*◌, ◌%◌, ◌<◌, ◌≢◌, length};
 ghost use Rattle.echo.specs.Placed.{Placed};
-ghost use Rattle.echo.specs.Square.{bigShiftRows, bigShiftRowsBack, word};
+ghost use Rattle.echo.specs.Square.{big_shift_rows, big_shift_rows_back, word};
 
 use super::lent::{copy_in, sixteen};
 
@@ -46,7 +46,7 @@ fn turn_row(s: &mut [u8], i: usize, places: usize)
 // Row i is turned by i places to the left; row 0 stays.
 pub(crate) fn shift_rows(s: &mut [u8])
     requires { length s.old ≡ 256 }
-    ensures { s.new ≡ bigShiftRows s.old }
+    ensures { s.new ≡ big_shift_rows s.old }
 {
     for i in 1..4 {
         turn_row(s, i, i);
@@ -56,7 +56,7 @@ pub(crate) fn shift_rows(s: &mut [u8])
 // Row i is turned by i places to the right, which is 4 - i to the left; row 0 stays.
 pub(crate) fn shift_rows_back(s: &mut [u8])
     requires { length s.old ≡ 256 }
-    ensures { s.new ≡ bigShiftRowsBack s.old }
+    ensures { s.new ≡ big_shift_rows_back s.old }
 {
     for i in 1..4 {
         turn_row(s, i, 4 - i);

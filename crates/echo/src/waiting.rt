@@ -1,7 +1,7 @@
 // The waiting block of a session, over its lent parts.
 ghost use Rattle.std.specs.Prelude.{◌≡◌, ◌+◌, ◌-◌, ◌/◌, ◌%◌, ◌^◌, ◌≤◌, length, take, drop, replicate};
-ghost use Rattle.echo.specs.Families.{blockSize};
-ghost use Rattle.echo.specs.Session.{addBits, addByte, allZero, bitLimit, compressed, made};
+ghost use Rattle.echo.specs.Families.{block_size};
+ghost use Rattle.echo.specs.Session.{add_bits, add_byte, all_zero, bit_limit, compressed, made};
 
 use super::compression::{compress_in, round_count};
 use super::families::{block_size, chaining_size};
@@ -10,7 +10,7 @@ use super::mode::Mode;
 // Whether every byte from the place `at` on is zero.
 pub(crate) fn zeros_from(bytes: &[u8], at: usize) -> bool
     requires { at ≤ length bytes.now }
-    ensures { result ≡ allZero (drop at bytes.now) }
+    ensures { result ≡ all_zero (drop at bytes.now) }
 {
     let mut i = at;
     while i < bytes.len() {
@@ -43,7 +43,7 @@ pub(crate) fn compress_waiting(
     requires chaining_len { length chaining.old ≡ 128 }
     requires waiting_len { length waiting.now ≡ 224 }
     requires counter_bound { counter ≤ 2 ^ 64 - 161 }
-    ensures { chaining.new ≡ compressed mode bits salt chaining.old counter (take (blockSize mode bits) waiting.now) }
+    ensures { chaining.new ≡ compressed mode bits salt chaining.old counter (take (block_size mode bits) waiting.now) }
 {
     let c = chaining_size(mode, bits);
     let b = block_size(mode, bits);
@@ -69,10 +69,10 @@ fn put(
 ) -> usize
     requires chaining_len { length chaining.old ≡ 128 }
     requires waiting_len { length waiting.old ≡ 224 }
-    requires at_value { at ≡ taken / 8 % blockSize mode bits }
-    requires taken_bound { taken + 8 ≤ bitLimit }
-    ensures value { result ≡ (taken + 8) / 8 % blockSize mode bits }
-    ensures waiting_after { made mode bits salt chaining.new (taken + 8) waiting.new ≡ addByte (made mode bits salt chaining.old taken waiting.old) x }
+    requires at_value { at ≡ taken / 8 % block_size mode bits }
+    requires taken_bound { taken + 8 ≤ bit_limit }
+    ensures value { result ≡ (taken + 8) / 8 % block_size mode bits }
+    ensures waiting_after { made mode bits salt chaining.new (taken + 8) waiting.new ≡ add_byte (made mode bits salt chaining.old taken waiting.old) x }
 {
     let b = block_size(mode, bits);
     waiting[at] = x;
@@ -98,8 +98,8 @@ pub(crate) fn absorb(
     requires chaining_len { length chaining.old ≡ 128 }
     requires waiting_len { length waiting.old ≡ 224 }
     requires piece_len { length piece.now ≡ (count + 7) / 8 }
-    requires count_bound { taken + count ≤ bitLimit }
-    ensures { made mode bits salt chaining.new (taken + count) waiting.new ≡ addBits (made mode bits salt chaining.old taken waiting.old) piece.now count }
+    requires count_bound { taken + count ≤ bit_limit }
+    ensures { made mode bits salt chaining.new (taken + count) waiting.new ≡ add_bits (made mode bits salt chaining.old taken waiting.old) piece.now count }
 {
     let whole = (count / 8) as usize;
     let mut at = (taken / 8 % (block_size(mode, bits) as u64)) as usize;

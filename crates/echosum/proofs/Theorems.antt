@@ -7,44 +7,44 @@ use Prim.Native.Nat.{ℕ, ◌*◌, ◌/◌}
 use lib.ListN.{length}
 use Rattle.echosum.specs.declared.listed.Terms.{Terms}
 use Rattle.echosum.specs.Bytes.{holds_of}
-use Rattle.echosum.specs.Listed.{isAdmitted, listed_of}
+use Rattle.echosum.specs.Listed.{is_admitted, listed_of}
 use Rattle.echosum.specs.ReadBack.{AreBytes, ReadBack}
-use Rattle.echosum.specs.Style.{line_of, plainLine, taggedLine}
+use Rattle.echosum.specs.Style.{line_of, plain_line, tagged_line}
 use Rattle.echosum.proofs.ReadBack as read_back
 use Rattle.echosum.proofs.ReadPlain as read_plain
 
 -- a line with a tag is read back, whatever the words of the command line say; a name is not empty and has no zero byte
-pub tagged-read-back : (bits : ℕ) (isSingle : Bool) (salt digest name : List ℕ) (terms : Terms)
-    → isAdmitted bits ≡ true
+pub tagged_read_back : (bits : ℕ) (isSingle : Bool) (salt digest name : List ℕ) (terms : Terms)
+    → is_admitted bits ≡ true
     → length salt ≡ 16
     → AreBytes salt
     → length digest ≡ bits / 8
     → AreBytes digest
     → (length name ≡ 0 → ⊥)
     → holds_of 0 name ≡ false
-    → let line = taggedLine bits isSingle salt digest name in
+    → let line = tagged_line bits isSingle salt digest name in
     ReadBack bits isSingle salt digest name line (listed_of line terms)
-tagged-read-back bits isSingle salt digest name terms a l b d db h z =
-    read_back.tagged-read-back bits a isSingle salt l b digest d db name h z terms
+tagged_read_back bits isSingle salt digest name terms a l b d db h z =
+    read_back.tagged_read_back bits a isSingle salt l b digest d db name h z terms
 
 -- one without a tag too, with the mode and the salt of the command line, and its bits where these are named there
-pub plain-read-back : (digest name : List ℕ) (terms : Terms)
+pub plain_read_back : (digest name : List ℕ) (terms : Terms)
     → AreBytes digest
-    → isAdmitted (4 * (2 * length digest)) ≡ true
+    → is_admitted (4 * (2 * length digest)) ≡ true
     → (terms.bits ≡ 0) ⊎ (terms.bits ≡ 4 * (2 * length digest))
     → (length name ≡ 0 → ⊥)
     → holds_of 0 name ≡ false
-    → let line = plainLine digest name in
+    → let line = plain_line digest name in
     ReadBack (4 * (2 * length digest)) terms.is_single terms.salt digest name line (listed_of line terms)
-plain-read-back digest name terms db a w h z = read_plain.plain-read-back digest db terms a w name h z
+plain_read_back digest name terms db a w h z = read_plain.plain_read_back digest db terms a w name h z
 
 -- these are the lines that are written, with a line end
-pub tagged-is-written : (bits : ℕ) (isSingle : Bool) (salt digest name : List ℕ)
+pub tagged_is_written : (bits : ℕ) (isSingle : Bool) (salt digest name : List ℕ)
     → line_of (record { is_tagged = true; is_zero_ended = false; is_single = isSingle; bits = bits; salt = salt }) digest name
-    ≡ taggedLine bits isSingle salt digest name ++ (10 ∷ [])
-tagged-is-written = read_back.tagged-is-written
+    ≡ tagged_line bits isSingle salt digest name ++ (10 ∷ [])
+tagged_is_written = read_back.tagged_is_written
 
-pub plain-is-written : (bits : ℕ) (isSingle : Bool) (salt digest name : List ℕ)
+pub plain_is_written : (bits : ℕ) (isSingle : Bool) (salt digest name : List ℕ)
     → line_of (record { is_tagged = false; is_zero_ended = false; is_single = isSingle; bits = bits; salt = salt }) digest name
-    ≡ plainLine digest name ++ (10 ∷ [])
-plain-is-written = read_plain.plain-is-written
+    ≡ plain_line digest name ++ (10 ∷ [])
+plain_is_written = read_plain.plain_is_written

@@ -3,8 +3,8 @@ use Rattle.std.specs.Prelude.{ℕ, Bool, true, false, cond, not, List, [], ◌�
 use Rattle.echosum.specs.Bytes.{holds_of}
 
 -- the byte that a letter behind a backslash stands for: `n` a line end, `r` a carriage return, a backslash a backslash; 0 for any other byte
-unfoldable pub meantBy : ℕ → ℕ
-meantBy y = cond (eqb y 110) 10 (cond (eqb y 114) 13 (cond (eqb y 92) 92 0))
+unfoldable pub meant_by : ℕ → ℕ
+meant_by y = cond (eqb y 110) 10 (cond (eqb y 114) 13 (cond (eqb y 92) 92 0))
 
 -- ---- from the left; a flag tells whether the byte before was a backslash that begins an escape
 
@@ -13,31 +13,31 @@ abbrev pub opens_at : Bool → ℕ → Bool
 opens_at opened x = cond opened false (eqb x 92)
 
 -- whether this byte is no letter, though an escape begins before it
-abbrev pub faultAt : Bool → ℕ → Bool
-faultAt opened x = cond opened (eqb (meantBy x) 0) false
+abbrev pub fault_at : Bool → ℕ → Bool
+fault_at opened x = cond opened (eqb (meant_by x) 0) false
 
 -- what this byte leaves of the text when escapes are undone
-abbrev pub undoneAt : Bool → ℕ → List ℕ
-undoneAt opened x = cond opened (meantBy x ∷ []) (cond (eqb x 92) [] (x ∷ []))
+abbrev pub undone_at : Bool → ℕ → List ℕ
+undone_at opened x = cond opened (meant_by x ∷ []) (cond (eqb x 92) [] (x ∷ []))
 
-unfoldable pub areEscapesFrom : Bool → List ℕ → Bool
-areEscapesFrom opened [] = not opened
-areEscapesFrom opened (x ∷ xs) = cond (faultAt opened x) false (areEscapesFrom (opens_at opened x) xs)
+unfoldable pub are_escapes_from : Bool → List ℕ → Bool
+are_escapes_from opened [] = not opened
+are_escapes_from opened (x ∷ xs) = cond (fault_at opened x) false (are_escapes_from (opens_at opened x) xs)
 
-unfoldable pub unescapedFrom : Bool → List ℕ → List ℕ
-unescapedFrom opened [] = []
-unescapedFrom opened (x ∷ xs) = undoneAt opened x ++ unescapedFrom (opens_at opened x) xs
+unfoldable pub unescaped_from : Bool → List ℕ → List ℕ
+unescaped_from opened [] = []
+unescaped_from opened (x ∷ xs) = undone_at opened x ++ unescaped_from (opens_at opened x) xs
 
 -- ---- whole texts
 
 -- whether every escape is one that can be undone
-unfoldable pub areEscapes : List ℕ → Bool
-areEscapes text = areEscapesFrom false text
+unfoldable pub are_escapes : List ℕ → Bool
+are_escapes text = are_escapes_from false text
 
 -- a text with its escapes undone
 unfoldable pub unescaped : List ℕ → List ℕ
-unescaped text = unescapedFrom false text
+unescaped text = unescaped_from false text
 
 -- whether a text can stand for a name, where it is escaped and where it is not
-unfoldable pub isName : Bool → List ℕ → Bool
-isName escaped text = cond (eqb (length text) 0) false (cond (holds_of 0 text) false (cond escaped (areEscapes text) true))
+unfoldable pub is_name : Bool → List ℕ → Bool
+is_name escaped text = cond (eqb (length text) 0) false (cond (holds_of 0 text) false (cond escaped (are_escapes text) true))

@@ -11,9 +11,9 @@ pub data AreBytes : List ℕ → Type 0 where
 
 -- what was read of a line, r, is what the line was made of
 pub record ReadBack (bits : ℕ) (isSingle : Bool) (salt digest name line : List ℕ) (r : Listed) : Type 0 where
-  pub is-good : r.is_good ≡ true
+  pub is_good : r.is_good ≡ true
   pub bits_are : r.bits ≡ bits
-  pub mode-is : r.is_single ≡ isSingle
-  pub salt-is : r.salt ≡ salt
-  pub digest-is : r.digest ≡ digest ++ drop (length digest) (replicate 64 0)
-  pub name-is : cond r.is_escaped (unescaped (part r.from r.to line)) (part r.from r.to line) ≡ name
+  pub mode_is : r.is_single ≡ isSingle
+  pub salt_is : r.salt ≡ salt
+  pub digest_is : r.digest ≡ digest ++ drop (length digest) (replicate 64 0)
+  pub name_is : cond r.is_escaped (unescaped (part r.from r.to line)) (part r.from r.to line) ≡ name

@@ -1,10 +1,10 @@
 // Bytes as they are.
 ghost use Rattle.std.specs.Prelude.{◌≡◌};
-ghost use Rattle.echosum.specs.Bytes.{holds_of, sameOf};
+ghost use Rattle.echosum.specs.Bytes.{holds_of, same_of};
 
 // Whether two texts have the same bytes.
 pub(crate) fn is_same(a: &[u8], b: &[u8]) -> bool
-    ensures { result ≡ sameOf a.now b.now }
+    ensures { result ≡ same_of a.now b.now }
 {
     if a.len() != b.len() {
         return false;

@@ -1,6 +1,6 @@
 // Hex digits.
 ghost use Rattle.std.specs.Prelude.{◌≤◌, ◌≡◌, length};
-ghost use Rattle.echosum.specs.Hexadecimal.{digitsIn, hexOf};
+ghost use Rattle.echosum.specs.Hexadecimal.{digits_in, hex_of};
 
 use digits::nibble;
 
@@ -13,7 +13,7 @@ pub(crate) struct Hex {
 
 // How many bytes at the front are digits.
 pub(crate) fn digits_in(text: &[u8]) -> usize
-    ensures count { result ≡ digitsIn text.now }
+    ensures count { result ≡ digits_in text.now }
     ensures within { result ≤ length text.now }
 {
     for i in 0..text.len() {
@@ -26,7 +26,7 @@ pub(crate) fn digits_in(text: &[u8]) -> usize
 
 // At most sixty-four pairs of digits, and nothing else.
 pub(crate) fn hex_in(text: &[u8]) -> Hex
-    ensures { result ≡ hexOf text.now }
+    ensures { result ≡ hex_of text.now }
 {
     let none = Hex {
         is_good: false,

@@ -5,8 +5,8 @@
 //
 // A backslash in front of either tells that the name is escaped. A line is without its line end here.
 ghost use Rattle.std.specs.Prelude.{◌≤◌, ◌≡◌, length};
-ghost use Rattle.echosum.specs.Listed.{bitsFor, framedOf, gap_of, head_of, isAdmitted, listed_of, markIn, mode_of};
-ghost use Rattle.echosum.specs.Listed.{noHead, noListed, plain_of, plainTo, taggedOf};
+ghost use Rattle.echosum.specs.Listed.{bits_for, framed_of, gap_of, head_of, is_admitted, listed_of, mark_in, mode_of};
+ghost use Rattle.echosum.specs.Listed.{no_head, no_listed, plain_of, plain_to, tagged_of};
 
 use super::bytes::is_same;
 use super::hexadecimal::{digits_in, hex_in};
@@ -45,7 +45,7 @@ struct Head {
 }
 
 fn nothing() -> Listed
-    ensures { result ≡ noListed }
+    ensures { result ≡ no_listed }
 {
     Listed {
         is_good: false,
@@ -60,7 +60,7 @@ fn nothing() -> Listed
 }
 
 fn no_head() -> Head
-    ensures { result ≡ noHead }
+    ensures { result ≡ no_head }
 {
     Head {
         is_good: false,
@@ -72,7 +72,7 @@ fn no_head() -> Head
 
 // Whether there is a digest of so many bits.
 fn is_admitted(bits: u64) -> bool
-    ensures { result ≡ isAdmitted bits }
+    ensures { result ≡ is_admitted bits }
 {
     if bits < 128 {
         return false;
@@ -85,7 +85,7 @@ fn is_admitted(bits: u64) -> bool
 
 // The bits of so many digits, or 0 where there is no digest of them or others are wanted.
 fn bits_for(digits: usize, wanted: u64) -> u64
-    ensures { result ≡ bitsFor digits wanted }
+    ensures { result ≡ bits_for digits wanted }
 {
     if 128 < digits {
         return 0;
@@ -116,7 +116,7 @@ fn is_gap(one: u8, two: u8) -> bool
 // A line without a tag, from `at` on, whose digits end at `end` and stand for so many bits.
 fn plain_to(line: &[u8], at: usize, terms: Terms, end: usize, bits: u64) -> Listed
     requires { (at ≤ end) × (end ≤ length line.now) }
-    ensures { result ≡ plainTo line.now at terms end bits }
+    ensures { result ≡ plain_to line.now at terms end bits }
 {
     if bits == 0 {
         return nothing();
@@ -162,7 +162,7 @@ fn plain_in(line: &[u8], at: usize, terms: Terms) -> Listed
 // Whether the fifty bytes in front of a tagged line's name begin and end as they have to.
 fn is_framed(text: &[u8]) -> bool
     requires { length text.now ≡ 50 }
-    ensures { result ≡ framedOf text.now }
+    ensures { result ≡ framed_of text.now }
 {
     if !is_same(&text[0..5], b"ECHO-") {
         return false;
@@ -216,7 +216,7 @@ fn head_in(text: &[u8]) -> Head
 // A line with a tag, from `at` on.
 fn tagged_in(line: &[u8], at: usize) -> Listed
     requires { at ≤ length line.now }
-    ensures { result ≡ taggedOf line.now at }
+    ensures { result ≡ tagged_of line.now at }
 {
     let all = line.len();
     if all - at < 50 {
@@ -260,7 +260,7 @@ fn tagged_in(line: &[u8], at: usize) -> Listed
 
 // One byte where the line begins with a backslash, and none where it does not.
 fn mark_in(line: &[u8]) -> usize
-    ensures is { result ≡ markIn line.now }
+    ensures is { result ≡ mark_in line.now }
     ensures within { result ≤ length line.now }
 {
     if line.len() == 0 {

@@ -1,14 +1,14 @@
 // Names in a list, some of them escaped as `lines` escapes them.
 ghost use Rattle.std.specs.Prelude.{◌≡◌};
 ghost use Rattle.lines.specs.Lines.{Put};
-ghost use Rattle.echosum.specs.Names.{areEscapes, faultAt, isName, meantBy, opens_at, undoneAt, unescaped};
+ghost use Rattle.echosum.specs.Names.{are_escapes, fault_at, is_name, meant_by, opens_at, undone_at, unescaped};
 
 use super::bytes::holds;
 use lines::put;
 
 // The byte that a letter behind a backslash stands for, and 0 for a byte that is no such letter.
 fn meant(letter: u8) -> u8
-    ensures { result ≡ meantBy letter }
+    ensures { result ≡ meant_by letter }
 {
     if letter == b'n' {
         return b'\n';
@@ -34,7 +34,7 @@ fn opens(is_open: bool, byte: u8) -> bool
 
 // Whether a byte is no letter, where the one before it begins an escape.
 fn is_fault(is_open: bool, byte: u8) -> bool
-    ensures { result ≡ faultAt is_open byte }
+    ensures { result ≡ fault_at is_open byte }
 {
     if is_open {
         return meant(byte) == 0;
@@ -44,7 +44,7 @@ fn is_fault(is_open: bool, byte: u8) -> bool
 
 // Whether every backslash stands before a letter that it escapes, or is one.
 fn are_escapes(text: &[u8]) -> bool
-    ensures { result ≡ areEscapes text.now }
+    ensures { result ≡ are_escapes text.now }
 {
     let mut is_open = false;
     for i in 0..text.len() {
@@ -59,7 +59,7 @@ fn are_escapes(text: &[u8]) -> bool
 
 // Whether a text can stand for the name of a file: there is some, no byte of it is 0, and its escapes can be undone where it has any.
 pub(crate) fn is_name(text: &[u8], is_escaped: bool) -> bool
-    ensures { result ≡ isName is_escaped text.now }
+    ensures { result ≡ is_name is_escaped text.now }
 {
     if text.len() == 0 {
         return false;
@@ -75,7 +75,7 @@ pub(crate) fn is_name(text: &[u8], is_escaped: bool) -> bool
 
 // One byte of a text whose escapes are undone.
 fn put_undone(room: &mut [u8], at: usize, is_open: bool, byte: u8) -> usize
-    ensures { Put room.old at (undoneAt is_open byte) room.new result }
+    ensures { Put room.old at (undone_at is_open byte) room.new result }
 {
     if is_open {
         let one = [meant(byte)];

@@ -1,9 +1,9 @@
 // How the line of a digest is written: with a tag or without, and with a line end or a zero byte behind it.
 ghost use Rattle.std.specs.Prelude.{◌≤◌, ◌≡◌, cond, length, ◌++◌};
-ghost use Rattle.lines.specs.Decimal.{decimalOf};
+ghost use Rattle.lines.specs.Decimal.{decimal_of};
 ghost use Rattle.lines.specs.Lines.{Put};
 ghost use Rattle.echosum.specs.Listed.{begins, double, single};
-ghost use Rattle.echosum.specs.Style.{backOf, end_of, frontOf, line_of, tag_of};
+ghost use Rattle.echosum.specs.Style.{back_of, end_of, front_of, line_of, tag_of};
 
 use lines::{put, put_decimal, put_hex, put_named};
 
@@ -19,7 +19,7 @@ pub(crate) struct Style {
 
 // ECHO-BITS-MODE- at the front of the room.
 fn put_kind(room: &mut [u8], bits: u64, is_single: bool) -> usize
-    ensures { Put room.old 0 (begins ++ (decimalOf bits ++ cond is_single single double)) room.new result }
+    ensures { Put room.old 0 (begins ++ (decimal_of bits ++ cond is_single single double)) room.new result }
 {
     let begun = put(room, 0, b"ECHO-");
     let numbered = put_decimal(room, begun, bits);
@@ -47,7 +47,7 @@ fn put_mode(room: &mut [u8], at: usize, is_single: bool) -> usize
 
 // What stands in front of the name.
 fn put_front(room: &mut [u8], style: Style, digest: &[u8]) -> usize
-    ensures { Put room.old 0 (frontOf style digest.now) room.new result }
+    ensures { Put room.old 0 (front_of style digest.now) room.new result }
 {
     if style.is_tagged {
         return put_tag(room, style);
@@ -58,7 +58,7 @@ fn put_front(room: &mut [u8], style: Style, digest: &[u8]) -> usize
 
 // What stands behind it.
 fn put_back(room: &mut [u8], style: Style, digest: &[u8]) -> usize
-    ensures { Put room.old 0 (backOf style digest.now) room.new result }
+    ensures { Put room.old 0 (back_of style digest.now) room.new result }
 {
     if style.is_tagged {
         let closed = put(room, 0, b") = ");

@@ -6,49 +6,49 @@ use mathlib.Core.Bool.{false}
 use mathlib.Core.List.{List}
 use Prim.Native.Nat.{ℕ, suc}
 use lib.ListN.{length}
-use Rattle.echo.proofs.Theorems.{the-blank-session-is-none}
+use Rattle.echo.proofs.Theorems.{the_blank_session_is_none}
 use Rattle.hmac.specs.declared.tag_session.TagSession.{TagSession}
-use Rattle.hmac.specs.Routines.{checkAnswer, checkRefusal, makeLeaves, makeRefusal}
-use Rattle.hmac.specs.TagSession.{addTagAnswer, addTagRefusal, blankTag, checkTagAnswer, checkTagRefusal, isTagSession}
-use Rattle.hmac.specs.TagSession.{openTagAnswer, openTagRefusal, readTagAnswer, readTagLeaves, readTagRefusal}
+use Rattle.hmac.specs.Routines.{check_answer, check_refusal, make_leaves, make_refusal}
+use Rattle.hmac.specs.TagSession.{add_tag_answer, add_tag_refusal, blank_tag, check_tag_answer, check_tag_refusal, is_tag_session}
+use Rattle.hmac.specs.TagSession.{open_tag_answer, open_tag_refusal, read_tag_answer, read_tag_leaves, read_tag_refusal}
 
-pub reading-changes-nothing : (t : TagSession) (room : ℕ) → (readTagAnswer t room).session ≡ t
-unfolding readTagAnswer
-reading-changes-nothing t room = refl
+pub reading_changes_nothing : (t : TagSession) (room : ℕ) → (read_tag_answer t room).session ≡ t
+unfolding read_tag_answer
+reading_changes_nothing t room = refl
 
-pub checking-changes-nothing : (t : TagSession) (tag : List ℕ) → (checkTagAnswer t tag).session ≡ t
-unfolding checkTagAnswer
-checking-changes-nothing t tag = refl
+pub checking_changes_nothing : (t : TagSession) (tag : List ℕ) → (check_tag_answer t tag).session ≡ t
+unfolding check_tag_answer
+checking_changes_nothing t tag = refl
 
-pub the-blank-record-is-none : isTagSession blankTag ≡ false
-unfolding isTagSession
-the-blank-record-is-none = rw the-blank-session-is-none
+pub the_blank_record_is_none : is_tag_session blank_tag ≡ false
+unfolding is_tag_session
+the_blank_record_is_none = rw the_blank_session_is_none
 
 -- the refusal number is k + 1
 module _ (k : ℕ) where
-  pub a-refused-opening-is-blank : (h : ℕ) (salt key : List ℕ) → openTagRefusal h (length salt) (length key) ≡ suc k
-      → (openTagAnswer h salt key).session ≡ blankTag
-  unfolding openTagAnswer
-  a-refused-opening-is-blank h salt key e = rw e refl
+  pub a_refused_opening_is_blank : (h : ℕ) (salt key : List ℕ) → open_tag_refusal h (length salt) (length key) ≡ suc k
+      → (open_tag_answer h salt key).session ≡ blank_tag
+  unfolding open_tag_answer
+  a_refused_opening_is_blank h salt key e = rw e refl
 
-  pub a-refused-piece-changes-nothing : (t : TagSession) (piece : List ℕ) → addTagRefusal t (length piece) ≡ suc k → (addTagAnswer t piece).session ≡ t
-  unfolding addTagAnswer
-  a-refused-piece-changes-nothing t piece e = rw e refl
+  pub a_refused_piece_changes_nothing : (t : TagSession) (piece : List ℕ) → add_tag_refusal t (length piece) ≡ suc k → (add_tag_answer t piece).session ≡ t
+  unfolding add_tag_answer
+  a_refused_piece_changes_nothing t piece e = rw e refl
 
-  pub a-refused-reading-leaves-the-room : (t : TagSession) (room : List ℕ) → readTagRefusal t (length room) ≡ suc k → readTagLeaves t room ≡ room
-  unfolding readTagLeaves
-  a-refused-reading-leaves-the-room t room e = rw e refl
+  pub a_refused_reading_leaves_the_room : (t : TagSession) (room : List ℕ) → read_tag_refusal t (length room) ≡ suc k → read_tag_leaves t room ≡ room
+  unfolding read_tag_leaves
+  a_refused_reading_leaves_the_room t room e = rw e refl
 
-  pub a-refused-check-says-no : (t : TagSession) (tag : List ℕ) → checkTagRefusal t ≡ suc k → (checkTagAnswer t tag).yes ≡ false
-  unfolding checkTagAnswer
-  a-refused-check-says-no t tag e = rw e refl
+  pub a_refused_check_says_no : (t : TagSession) (tag : List ℕ) → check_tag_refusal t ≡ suc k → (check_tag_answer t tag).yes ≡ false
+  unfolding check_tag_answer
+  a_refused_check_says_no t tag e = rw e refl
 
-  pub a-refused-making-leaves-the-room : (h : ℕ) (salt key message room : List ℕ)
-      → makeRefusal h (length salt) (length key) (length message) (length room) ≡ suc k → makeLeaves h salt key message room ≡ room
-  unfolding makeLeaves
-  a-refused-making-leaves-the-room h salt key message room e = rw e refl
+  pub a_refused_making_leaves_the_room : (h : ℕ) (salt key message room : List ℕ)
+      → make_refusal h (length salt) (length key) (length message) (length room) ≡ suc k → make_leaves h salt key message room ≡ room
+  unfolding make_leaves
+  a_refused_making_leaves_the_room h salt key message room e = rw e refl
 
-  pub a-refused-check-at-once-says-no : (h : ℕ) (salt key message tag : List ℕ) → checkRefusal h (length salt) (length key) (length message) ≡ suc k
-      → (checkAnswer h salt key message tag).yes ≡ false
-  unfolding checkAnswer
-  a-refused-check-at-once-says-no h salt key message tag e = rw e refl
+  pub a_refused_check_at_once_says_no : (h : ℕ) (salt key message tag : List ℕ) → check_refusal h (length salt) (length key) (length message) ≡ suc k
+      → (check_answer h salt key message tag).yes ≡ false
+  unfolding check_answer
+  a_refused_check_at_once_says_no h salt key message tag e = rw e refl

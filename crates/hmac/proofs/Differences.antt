@@ -7,12 +7,12 @@ use native.Mathlib.Omega.{arith}
 use lib.Dec.{ltb}
 use lib.ListN.{get_or, length, take}
 use Rattle.echo.specs.Families.{either}
-use Rattle.hmac.specs.Hmac.{keyBlock, withZeros}
+use Rattle.hmac.specs.Hmac.{key_block, with_zeros}
 
 abbrev cut : (List ℕ → List ℕ) → ℕ → List ℕ → List ℕ
-cut H B K = withZeros B (either (ltb B (length K)) (take B K) K)
+cut H B K = with_zeros B (either (ltb B (length K)) (take B K) K)
 
 -- a key of two bytes, blocks of one, and a hash function whose values are 7
-pub long-key-cut-differs : keyBlock (λ l. 7 ∷ []) 1 (1 ∷ 2 ∷ []) ≡ cut (λ l. 7 ∷ []) 1 (1 ∷ 2 ∷ []) → ⊥
-unfolding keyBlock withZeros
-long-key-cut-differs e = let z : ◌≡◌ {A = ℕ} 7 1 = ap (λ (l : List ℕ). get_or l 0 0) e in omega arith
+pub long_key_cut_differs : key_block (λ l. 7 ∷ []) 1 (1 ∷ 2 ∷ []) ≡ cut (λ l. 7 ∷ []) 1 (1 ∷ 2 ∷ []) → ⊥
+unfolding key_block with_zeros
+long_key_cut_differs e = let z : ◌≡◌ {A = ℕ} 7 1 = ap (λ (l : List ℕ). get_or l 0 0) e in omega arith

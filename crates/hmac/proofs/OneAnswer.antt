@@ -12,30 +12,30 @@ use Rattle.hmac.proofs.at_once.check_tag.Reads as check_tag
 use Rattle.hmac.proofs.at_once.verify_tag.Reads as verify_tag
 use Rattle.hmac.proofs.comparison.same.Reads as same
 
-pub open-has-one-answer : (κs : _) (a : _) (r r' : _) (s s' : _) → opening.Post κs a r s → opening.Post κs a r' s' → r ≡ r'
-open-has-one-answer κs a r r' s s' p q = p ∙ sym q
+pub open_has_one_answer : (κs : _) (a : _) (r r' : _) (s s' : _) → opening.Post κs a r s → opening.Post κs a r' s' → r ≡ r'
+open_has_one_answer κs a r r' s s' p q = p ∙ sym q
 
-pub is-session-has-one-answer : (κs : _) (a : _) (r r' : _) (s s' : _) → is_session.Post κs a r s → is_session.Post κs a r' s' → r ≡ r'
-is-session-has-one-answer κs a r r' s s' p q = p ∙ sym q
+pub is_session_has_one_answer : (κs : _) (a : _) (r r' : _) (s s' : _) → is_session.Post κs a r s → is_session.Post κs a r' s' → r ≡ r'
+is_session_has_one_answer κs a r r' s s' p q = p ∙ sym q
 
-pub add-has-one-answer : (κs : _) (a : _) (r r' : _) (s s' : _) → add.Post κs a r s → add.Post κs a r' s' → r ≡ r'
-add-has-one-answer κs a r r' s s' p q = p ∙ sym q
+pub add_has_one_answer : (κs : _) (a : _) (r r' : _) (s s' : _) → add.Post κs a r s → add.Post κs a r' s' → r ≡ r'
+add_has_one_answer κs a r r' s s' p q = p ∙ sym q
 
-pub read-has-one-answer : (κs : _) (a : _) (r r' : _) (s s' : _) → read.Post κs a r s → read.Post κs a r' s' → (r ≡ r') × (s.1.0.now ≡ s'.1.0.now)
-read-has-one-answer κs a r r' s s' p q = (p.0 ∙ sym q.0, p.1 ∙ sym q.1)
+pub read_has_one_answer : (κs : _) (a : _) (r r' : _) (s s' : _) → read.Post κs a r s → read.Post κs a r' s' → (r ≡ r') × (s.1.0.now ≡ s'.1.0.now)
+read_has_one_answer κs a r r' s s' p q = (p.0 ∙ sym q.0, p.1 ∙ sym q.1)
 
-pub check-has-one-answer : (κs : _) (a : _) (r r' : _) (s s' : _) → check.Post κs a r s → check.Post κs a r' s' → r ≡ r'
-check-has-one-answer κs a r r' s s' p q = p ∙ sym q
+pub check_has_one_answer : (κs : _) (a : _) (r r' : _) (s s' : _) → check.Post κs a r s → check.Post κs a r' s' → r ≡ r'
+check_has_one_answer κs a r r' s s' p q = p ∙ sym q
 
-pub make-tag-has-one-answer : (κs : _) (a : _) (r r' : _) (s s' : _) → make_tag.Post κs a r s → make_tag.Post κs a r' s'
+pub make_tag_has_one_answer : (κs : _) (a : _) (r r' : _) (s s' : _) → make_tag.Post κs a r s → make_tag.Post κs a r' s'
     → (r ≡ r') × (s.1.1.1.1.0.now ≡ s'.1.1.1.1.0.now)
-make-tag-has-one-answer κs a r r' s s' p q = (p.0 ∙ sym q.0, p.1 ∙ sym q.1)
+make_tag_has_one_answer κs a r r' s s' p q = (p.0 ∙ sym q.0, p.1 ∙ sym q.1)
 
-pub check-tag-has-one-answer : (κs : _) (a : _) (r r' : _) (s s' : _) → check_tag.Post κs a r s → check_tag.Post κs a r' s' → r ≡ r'
-check-tag-has-one-answer κs a r r' s s' p q = p ∙ sym q
+pub check_tag_has_one_answer : (κs : _) (a : _) (r r' : _) (s s' : _) → check_tag.Post κs a r s → check_tag.Post κs a r' s' → r ≡ r'
+check_tag_has_one_answer κs a r r' s s' p q = p ∙ sym q
 
-pub verify-tag-has-one-answer : (κs : _) (a : _) (r r' : _) (s s' : _) → verify_tag.Post κs a r s → verify_tag.Post κs a r' s' → r ≡ r'
-verify-tag-has-one-answer κs a r r' s s' p q = p ∙ sym q
+pub verify_tag_has_one_answer : (κs : _) (a : _) (r r' : _) (s s' : _) → verify_tag.Post κs a r s → verify_tag.Post κs a r' s' → r ≡ r'
+verify_tag_has_one_answer κs a r r' s s' p q = p ∙ sym q
 
-pub same-has-one-answer : (κs : _) (a : _) (r r' : _) (s s' : _) → same.Post κs a r s → same.Post κs a r' s' → r ≡ r'
-same-has-one-answer κs a r r' s s' p q = p ∙ sym q
+pub same_has_one_answer : (κs : _) (a : _) (r r' : _) (s s' : _) → same.Post κs a r s → same.Post κs a r' s' → r ≡ r'
+same_has_one_answer κs a r r' s s' p q = p ∙ sym q

@@ -7,15 +7,15 @@ use Rattle.echo.specs.Digest as Digest
 use Rattle.echo.specs.Families as Families
 use Rattle.echo.specs.Session as Session
 
-abbrev pub isDoublePipe : Mode → Bool
-isDoublePipe DoublePipe = true
-isDoublePipe SinglePipe = false
+abbrev pub is_double_pipe : Mode → Bool
+is_double_pipe DoublePipe = true
+is_double_pipe SinglePipe = false
 
-abbrev pub blockSize : ℕ → ℕ
-blockSize h = Families.blockSize DoublePipe h
+abbrev pub block_size : ℕ → ℕ
+block_size h = Families.block_size DoublePipe h
 
-abbrev pub digestOf : ℕ → List ℕ → List ℕ → List ℕ
-digestOf h salt message = Digest.digestOf DoublePipe h salt message
+abbrev pub digest_of : ℕ → List ℕ → List ℕ → List ℕ
+digest_of h salt message = Digest.digest_of DoublePipe h salt message
 
 abbrev pub opened : ℕ → List ℕ → Session
 opened h salt = Session.opened DoublePipe h salt

@@ -1,99 +1,99 @@
 -- Tag sessions: which records are one, and what opening, adding, reading and checking answer. Assumes nothing.
 use Rattle.std.specs.Prelude.{Bool, false, not, ◌&&◌, List, [], ◌∷◌, ◌++◌, ℕ, ◌+◌, ◌*◌, ◌/◌, ◌%◌, eqb, leb, ltb, drop, length}
-use Rattle.aes_round.specs.Bytes.{xorBytes}
+use Rattle.aes_round.specs.Bytes.{xor_bytes}
 use Rattle.echo.specs.declared.session.Session.{Session}
-use Rattle.echo.specs.Refusals.{◌when◌, first_of, noSalt, unless}
-use Rattle.echo.specs.Session.{addBytes, admitted, bitLimit, blank, isSession, limit, sessionDigest}
+use Rattle.echo.specs.Refusals.{◌when◌, first_of, no_salt, unless}
+use Rattle.echo.specs.Session.{add_bytes, admitted, bit_limit, blank, is_session, limit, session_digest}
 use Rattle.hmac.specs.declared.tag_session.Checking.{Checking}
 use Rattle.hmac.specs.declared.tag_session.TagAnswer.{TagAnswer}
 use Rattle.hmac.specs.declared.tag_session.TagSession.{TagSession}
-use Rattle.hmac.specs.DoublePipe.{blockSize, digestOf, isDoublePipe, opened}
-use Rattle.hmac.specs.Hmac.{ipad, keyBlock, opad}
+use Rattle.hmac.specs.DoublePipe.{block_size, digest_of, is_double_pipe, opened}
+use Rattle.hmac.specs.Hmac.{ipad, key_block, opad}
 use Rattle.hmac.specs.Same.{same}
 
 -- the outer session has the bits of one block, and the inner one at least those, in whole bytes
-abbrev pub countsFit : ℕ → ℕ → ℕ → Bool
-countsFit inner outer h = eqb outer (8 * blockSize h) && (leb (8 * blockSize h) inner && eqb (inner % 8) 0)
+abbrev pub counts_fit : ℕ → ℕ → ℕ → Bool
+counts_fit inner outer h = eqb outer (8 * block_size h) && (leb (8 * block_size h) inner && eqb (inner % 8) 0)
 
 -- two digest sessions in double-pipe of one h and salt
-unfoldable pub isTagSession : TagSession → Bool
-isTagSession t =
-    isSession t.inner
-    && (isSession t.outer
-    && (isDoublePipe t.inner.mode
-    && (isDoublePipe t.outer.mode
+unfoldable pub is_tag_session : TagSession → Bool
+is_tag_session t =
+    is_session t.inner
+    && (is_session t.outer
+    && (is_double_pipe t.inner.mode
+    && (is_double_pipe t.outer.mode
     && (eqb t.inner.bits t.outer.bits
     && (same t.inner.salt t.outer.salt
-    && countsFit t.inner.taken t.outer.taken t.outer.bits)))))
+    && counts_fit t.inner.taken t.outer.taken t.outer.bits)))))
 
 -- ---- opening
 
 -- two blank sessions, and no tag session
-abbrev pub blankTag : TagSession
-blankTag = record { inner = blank; outer = blank }
+abbrev pub blank_tag : TagSession
+blank_tag = record { inner = blank; outer = blank }
 
 -- an opening that is refused by a number, for the contract of a private function
-abbrev pub refusedTag : ℕ → TagAnswer
-refusedTag number = record { refusal = number; session = blankTag }
+abbrev pub refused_tag : ℕ → TagAnswer
+refused_tag number = record { refusal = number; session = blank_tag }
 
 -- an opened digest session to which K0, xored with a pad of one block, was added
-abbrev pub keyedBy : ℕ → List ℕ → List ℕ → List ℕ → Session
-keyedBy h salt key pad = addBytes (opened h salt) (xorBytes (blockSize h) (keyBlock (digestOf h salt) (blockSize h) key) pad)
+abbrev pub keyed_by : ℕ → List ℕ → List ℕ → List ℕ → Session
+keyed_by h salt key pad = add_bytes (opened h salt) (xor_bytes (block_size h) (key_block (digest_of h salt) (block_size h) key) pad)
 
-unfoldable pub openedTag : ℕ → List ℕ → List ℕ → TagSession
-openedTag h salt key = record { inner = keyedBy h salt key (ipad (blockSize h)); outer = keyedBy h salt key (opad (blockSize h)) }
+unfoldable pub opened_tag : ℕ → List ℕ → List ℕ → TagSession
+opened_tag h salt key = record { inner = keyed_by h salt key (ipad (block_size h)); outer = keyed_by h salt key (opad (block_size h)) }
 
-unfoldable pub openTagRefusal : ℕ → ℕ → ℕ → ℕ
-openTagRefusal h saltLength keyLength =
-    first_of ((1 when not (admitted h)) ∷ (2 when noSalt saltLength) ∷ (4 when ltb limit keyLength) ∷ [])
+unfoldable pub open_tag_refusal : ℕ → ℕ → ℕ → ℕ
+open_tag_refusal h saltLength keyLength =
+    first_of ((1 when not (admitted h)) ∷ (2 when no_salt saltLength) ∷ (4 when ltb limit keyLength) ∷ [])
 
-unfoldable pub openTagAnswer : ℕ → List ℕ → List ℕ → TagAnswer
-openTagAnswer h salt key =
-    let refusal = openTagRefusal h (length salt) (length key) in
-    record { refusal = refusal; session = unless refusal (openedTag h salt key) blankTag }
+unfoldable pub open_tag_answer : ℕ → List ℕ → List ℕ → TagAnswer
+open_tag_answer h salt key =
+    let refusal = open_tag_refusal h (length salt) (length key) in
+    record { refusal = refusal; session = unless refusal (opened_tag h salt key) blank_tag }
 
 -- ---- adding
 
 -- a piece goes to the inner session
-unfoldable pub addTagBytes : TagSession → List ℕ → TagSession
-addTagBytes t piece = record { inner = addBytes t.inner piece; outer = t.outer }
+unfoldable pub add_tag_bytes : TagSession → List ℕ → TagSession
+add_tag_bytes t piece = record { inner = add_bytes t.inner piece; outer = t.outer }
 
 -- key block and message together
-unfoldable pub addTagRefusal : TagSession → ℕ → ℕ
-addTagRefusal t pieceLength = first_of ((3 when not (isTagSession t)) ∷ (4 when ltb bitLimit (t.inner.taken + 8 * pieceLength)) ∷ [])
+unfoldable pub add_tag_refusal : TagSession → ℕ → ℕ
+add_tag_refusal t pieceLength = first_of ((3 when not (is_tag_session t)) ∷ (4 when ltb bit_limit (t.inner.taken + 8 * pieceLength)) ∷ [])
 
-unfoldable pub addTagAnswer : TagSession → List ℕ → TagAnswer
-addTagAnswer t piece =
-    let refusal = addTagRefusal t (length piece) in
-    record { refusal = refusal; session = unless refusal (addTagBytes t piece) t }
+unfoldable pub add_tag_answer : TagSession → List ℕ → TagAnswer
+add_tag_answer t piece =
+    let refusal = add_tag_refusal t (length piece) in
+    record { refusal = refusal; session = unless refusal (add_tag_bytes t piece) t }
 
 -- ---- reading
 
 -- the outer session with the digest of the inner one
-unfoldable pub closedBy : TagSession → Session
-closedBy t = addBytes t.outer (sessionDigest t.inner)
+unfoldable pub closed_by : TagSession → Session
+closed_by t = add_bytes t.outer (session_digest t.inner)
 
 -- the digest of that, whatever the two sessions hold
-unfoldable pub sessionTag : TagSession → List ℕ
-sessionTag t = sessionDigest (closedBy t)
+unfoldable pub session_tag : TagSession → List ℕ
+session_tag t = session_digest (closed_by t)
 
-unfoldable pub readTagRefusal : TagSession → ℕ → ℕ
-readTagRefusal t room = first_of ((3 when not (isTagSession t)) ∷ (5 when ltb room (t.outer.bits / 8)) ∷ [])
+unfoldable pub read_tag_refusal : TagSession → ℕ → ℕ
+read_tag_refusal t room = first_of ((3 when not (is_tag_session t)) ∷ (5 when ltb room (t.outer.bits / 8)) ∷ [])
 
-unfoldable pub readTagAnswer : TagSession → ℕ → TagAnswer
-readTagAnswer t room = record { refusal = readTagRefusal t room; session = t }
+unfoldable pub read_tag_answer : TagSession → ℕ → TagAnswer
+read_tag_answer t room = record { refusal = read_tag_refusal t room; session = t }
 
 -- a tag fills the first h/8 bytes of the room; those behind stay
-unfoldable pub readTagLeaves : TagSession → List ℕ → List ℕ
-readTagLeaves t room = unless (readTagRefusal t (length room)) (sessionTag t ++ drop (t.outer.bits / 8) room) room
+unfoldable pub read_tag_leaves : TagSession → List ℕ → List ℕ
+read_tag_leaves t room = unless (read_tag_refusal t (length room)) (session_tag t ++ drop (t.outer.bits / 8) room) room
 
 -- ---- checking
 
-unfoldable pub checkTagRefusal : TagSession → ℕ
-checkTagRefusal t = first_of ((3 when not (isTagSession t)) ∷ [])
+unfoldable pub check_tag_refusal : TagSession → ℕ
+check_tag_refusal t = first_of ((3 when not (is_tag_session t)) ∷ [])
 
 -- yes exactly for the full tag; a refused check says no
-unfoldable pub checkTagAnswer : TagSession → List ℕ → Checking
-checkTagAnswer t tag =
-    let refusal = checkTagRefusal t in
-    record { refusal = refusal; yes = unless refusal (same (sessionTag t) tag) false; session = t }
+unfoldable pub check_tag_answer : TagSession → List ℕ → Checking
+check_tag_answer t tag =
+    let refusal = check_tag_refusal t in
+    record { refusal = refusal; yes = unless refusal (same (session_tag t) tag) false; session = t }

@@ -1,10 +1,10 @@
 // The key as one block, and digest sessions that begin with it.
 ghost use Rattle.std.specs.Prelude.{true, ◌≡◌, ltb, length, replicate, take};
-ghost use Rattle.aes_round.specs.Bytes.{xorBytes};
+ghost use Rattle.aes_round.specs.Bytes.{xor_bytes};
 ghost use Rattle.echo.specs.Families.{either};
-ghost use Rattle.echo.specs.Session.{addBytes, admitted, isSession, limit};
-ghost use Rattle.hmac.specs.DoublePipe.{blockSize, digestOf};
-ghost use Rattle.hmac.specs.Hmac.{keyBlock};
+ghost use Rattle.echo.specs.Session.{add_bytes, admitted, is_session, limit};
+ghost use Rattle.hmac.specs.DoublePipe.{block_size, digest_of};
+ghost use Rattle.hmac.specs.Hmac.{key_block};
 
 use echo::{Mode, Session};
 
@@ -17,7 +17,7 @@ pub(crate) struct KeyBlock {
 
 // The block size of a digest length in double-pipe.
 pub(crate) fn block_size(bits: u64) -> usize
-    ensures { result ≡ blockSize bits }
+    ensures { result ≡ block_size bits }
 {
     if bits <= 256 { 192 } else { 128 }
 }
@@ -27,7 +27,7 @@ pub(crate) fn key_block(bits: u64, salt: &[u8], key: &[u8]) -> KeyBlock
     requires bits_value { admitted bits ≡ true }
     requires salt_len { length salt.now ≡ 16 }
     ensures refusal_value { result.refusal ≡ either (ltb limit (length key.now)) 4 0 }
-    ensures bytes_value { result.refusal ≡ 0 → take (blockSize bits) result.bytes ≡ keyBlock (digestOf bits salt.now) (blockSize bits) key.now }
+    ensures bytes_value { result.refusal ≡ 0 → take (block_size bits) result.bytes ≡ key_block (digest_of bits salt.now) (block_size bits) key.now }
 {
     let n = key.len();
     let mut block = [0u8; 192];
@@ -49,9 +49,9 @@ pub(crate) fn key_block(bits: u64, salt: &[u8], key: &[u8]) -> KeyBlock
 
 // A digest session to which K0, at the front of `block`, was added, xored with a pad of one byte repeated.
 pub(crate) fn keyed(fresh: Session, block: [u8; 192], pad: u8) -> Session
-    requires fresh_value { isSession fresh ≡ true }
+    requires fresh_value { is_session fresh ≡ true }
     requires taken_value { fresh.taken ≡ 0 }
-    ensures { result ≡ addBytes fresh (xorBytes (blockSize fresh.bits) (take (blockSize fresh.bits) block) (replicate (blockSize fresh.bits) pad)) }
+    ensures { result ≡ add_bytes fresh (xor_bytes (block_size fresh.bits) (take (block_size fresh.bits) block) (replicate (block_size fresh.bits) pad)) }
 {
     let b = block_size(fresh.bits);
     let mut padded = [0u8; 192];

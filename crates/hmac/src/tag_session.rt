@@ -1,6 +1,6 @@
 // Tag sessions: a tag over the pieces of a message.
 ghost use Rattle.std.specs.Prelude.{true, ◌≡◌, length};
-ghost use Rattle.hmac.specs.TagSession.{addTagAnswer, checkTagAnswer, closedBy, countsFit, isTagSession, openTagAnswer, readTagAnswer, readTagLeaves, refusedTag};
+ghost use Rattle.hmac.specs.TagSession.{add_tag_answer, check_tag_answer, closed_by, counts_fit, is_tag_session, open_tag_answer, read_tag_answer, read_tag_leaves, refused_tag};
 
 use super::comparison::same;
 use super::double_pipe::is_double_pipe;
@@ -33,7 +33,7 @@ pub struct Checking {
 
 // Whether an outer session has the bits of one block, and an inner one at least those, in whole bytes.
 fn counts_fit(inner: u64, outer: u64, bits: u64) -> bool
-    ensures { result ≡ countsFit inner outer bits }
+    ensures { result ≡ counts_fit inner outer bits }
 {
     let b = 8 * (block_size(bits) as u64);
     if outer != b {
@@ -49,7 +49,7 @@ impl TagSession {
     // A refusal of an opening: two blank sessions, which are no tag session. A refused opening of a digest hands a blank one out, and no digest has
     // 0 bits.
     fn refused(number: u8) -> TagAnswer
-        ensures { result ≡ refusedTag number }
+        ensures { result ≡ refused_tag number }
     {
         let opening = Session::open(Mode::DoublePipe, 0, b"");
         let none = opening.session;
@@ -65,7 +65,7 @@ impl TagSession {
     // A session for tags of so many bits under a salt and a key; or the blank one with 1 (bits not admitted), 2 (salt not 16 bytes) or 4 (key
     // too long).
     pub fn open(bits: u64, salt: &[u8], key: &[u8]) -> TagAnswer
-        ensures { result ≡ openTagAnswer bits salt.now key.now }
+        ensures { result ≡ open_tag_answer bits salt.now key.now }
     {
         let opening = Session::open(Mode::DoublePipe, bits, salt);
         let not_opened = opening.refusal;
@@ -91,7 +91,7 @@ impl TagSession {
 
     // Whether the record is a tag session.
     pub fn is_session(self) -> bool
-        ensures { result ≡ isTagSession self }
+        ensures { result ≡ is_tag_session self }
     {
         if !self.inner.is_session() {
             return false;
@@ -122,7 +122,7 @@ impl TagSession {
 
     // The session with the piece joined to its message, or the same with 3 (no tag session) or 4 (too long).
     pub fn add(self, piece: &[u8]) -> TagAnswer
-        ensures { result ≡ addTagAnswer self piece.now }
+        ensures { result ≡ add_tag_answer self piece.now }
     {
         if !self.is_session() {
             return TagAnswer {
@@ -144,8 +144,8 @@ impl TagSession {
 
     // The outer session with the digest of the inner one.
     fn closed(self) -> Session
-        requires { isTagSession self ≡ true }
-        ensures { result ≡ closedBy self }
+        requires { is_tag_session self ≡ true }
+        ensures { result ≡ closed_by self }
     {
         let n = (self.inner.bits / 8) as usize;
         let mut digest = [0u8; 64];
@@ -157,8 +157,8 @@ impl TagSession {
     // The tag of the message so far, at the front of `out`, whose bytes behind it stay; or 3 (no tag session) or 5 (too little room) and
     // nothing written. The session is handed back as it came.
     pub fn read(self, out: &mut [u8]) -> TagAnswer
-        ensures answer { result ≡ readTagAnswer self (length out.old) }
-        ensures left { out.new ≡ readTagLeaves self out.old }
+        ensures answer { result ≡ read_tag_answer self (length out.old) }
+        ensures left { out.new ≡ read_tag_leaves self out.old }
     {
         if !self.is_session() {
             return TagAnswer {
@@ -177,7 +177,7 @@ impl TagSession {
     // Whether the tag is that of the message so far, all of it and nothing else; or no with 3 (no tag session). The session is handed back as
     // it came.
     pub fn check(self, tag: &[u8]) -> Checking
-        ensures { result ≡ checkTagAnswer self tag.now }
+        ensures { result ≡ check_tag_answer self tag.now }
     {
         if !self.is_session() {
             return Checking {

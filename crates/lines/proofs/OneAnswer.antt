@@ -7,22 +7,22 @@ use Rattle.lines.proofs.hexadecimal.put_hex.Reads as put_hex
 use Rattle.lines.proofs.names.put_named.Reads as put_named
 use Rattle.lines.proofs.reasons.put_reason.Reads as put_reason
 
-pub put-has-one-answer : (κs : _) (a : _) (r r' : _) (s s' : _) → put.Post κs a r s → put.Post κs a r' s'
+pub put_has_one_answer : (κs : _) (a : _) (r r' : _) (s s' : _) → put.Post κs a r s → put.Post κs a r' s'
     → (r ≡ r') × (s.0.now ≡ s'.0.now)
-put-has-one-answer κs a r r' s s' p q = (p.place_is ∙ sym q.place_is, p.room-is ∙ sym q.room-is)
+put_has_one_answer κs a r r' s s' p q = (p.place_is ∙ sym q.place_is, p.room_is ∙ sym q.room_is)
 
-pub put-hex-has-one-answer : (κs : _) (a : _) (r r' : _) (s s' : _) → put_hex.Post κs a r s → put_hex.Post κs a r' s'
+pub put_hex_has_one_answer : (κs : _) (a : _) (r r' : _) (s s' : _) → put_hex.Post κs a r s → put_hex.Post κs a r' s'
     → (r ≡ r') × (s.0.now ≡ s'.0.now)
-put-hex-has-one-answer κs a r r' s s' p q = (p.place_is ∙ sym q.place_is, p.room-is ∙ sym q.room-is)
+put_hex_has_one_answer κs a r r' s s' p q = (p.place_is ∙ sym q.place_is, p.room_is ∙ sym q.room_is)
 
-pub put-decimal-has-one-answer : (κs : _) (a : _) (r r' : _) (s s' : _) → put_decimal.Post κs a r s → put_decimal.Post κs a r' s'
+pub put_decimal_has_one_answer : (κs : _) (a : _) (r r' : _) (s s' : _) → put_decimal.Post κs a r s → put_decimal.Post κs a r' s'
     → (r ≡ r') × (s.0.now ≡ s'.0.now)
-put-decimal-has-one-answer κs a r r' s s' p q = (p.place_is ∙ sym q.place_is, p.room-is ∙ sym q.room-is)
+put_decimal_has_one_answer κs a r r' s s' p q = (p.place_is ∙ sym q.place_is, p.room_is ∙ sym q.room_is)
 
-pub put-named-has-one-answer : (κs : _) (a : _) (r r' : _) (s s' : _) → put_named.Post κs a r s → put_named.Post κs a r' s'
+pub put_named_has_one_answer : (κs : _) (a : _) (r r' : _) (s s' : _) → put_named.Post κs a r s → put_named.Post κs a r' s'
     → (r ≡ r') × (s.0.now ≡ s'.0.now)
-put-named-has-one-answer κs a r r' s s' p q = (p.place_is ∙ sym q.place_is, p.room-is ∙ sym q.room-is)
+put_named_has_one_answer κs a r r' s s' p q = (p.place_is ∙ sym q.place_is, p.room_is ∙ sym q.room_is)
 
-pub put-reason-has-one-answer : (κs : _) (a : _) (r r' : _) (s s' : _) → put_reason.Post κs a r s → put_reason.Post κs a r' s'
+pub put_reason_has_one_answer : (κs : _) (a : _) (r r' : _) (s s' : _) → put_reason.Post κs a r s → put_reason.Post κs a r' s'
     → (r ≡ r') × (s.0.now ≡ s'.0.now)
-put-reason-has-one-answer κs a r r' s s' p q = (p.place_is ∙ sym q.place_is, p.room-is ∙ sym q.room-is)
+put_reason_has_one_answer κs a r r' s s' p q = (p.place_is ∙ sym q.place_is, p.room_is ∙ sym q.room_is)

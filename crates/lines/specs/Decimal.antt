@@ -7,5 +7,5 @@ significant zero n = []
 significant (suc k) n = cond (eqb n 0) [] (significant k (n / 10) ++ ((48 + n % 10) ∷ []))
 
 -- the digits of a number below 2^64, which has at most twenty: one for 0
-unfoldable pub decimalOf : ℕ → List ℕ
-decimalOf n = significant 19 (n / 10) ++ ((48 + n % 10) ∷ [])
+unfoldable pub decimal_of : ℕ → List ℕ
+decimal_of n = significant 19 (n / 10) ++ ((48 + n % 10) ∷ [])

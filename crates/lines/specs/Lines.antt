@@ -13,7 +13,7 @@ behind room at text = min (at + length text) (length room)
 -- what a routine leaves in the room and what it answers, where it puts a text at a place. The last part follows from the others; it is
 -- stated so that the proof that the checker makes of `&room[..r]` finds it.
 pub record Put (room : List ℕ) (at : ℕ) (text after : List ℕ) (r : ℕ) : Type 0 where
-  pub room-is : after ≡ placed room at text
+  pub room_is : after ≡ placed room at text
   pub place_is : r ≡ behind room at text
   pub fits : r ≤ length after
 

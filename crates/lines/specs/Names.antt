@@ -2,16 +2,16 @@
 use Rattle.std.specs.Prelude.{ℕ, Bool, true, false, cond, List, [], ◌∷◌, eqb}
 
 -- what stands behind the backslash: `n` for a line end, `r` for a carriage return, a backslash for a backslash, and 0 for any other byte
-unfoldable pub letterOf : ℕ → ℕ
-letterOf x = cond (eqb x 10) 110 (cond (eqb x 13) 114 (cond (eqb x 92) 92 0))
+unfoldable pub letter_of : ℕ → ℕ
+letter_of x = cond (eqb x 10) 110 (cond (eqb x 13) 114 (cond (eqb x 92) 92 0))
 
-unfoldable pub escapeOf : ℕ → List ℕ
-escapeOf x = cond (eqb (letterOf x) 0) (x ∷ []) (92 ∷ letterOf x ∷ [])
+unfoldable pub escape_of : ℕ → List ℕ
+escape_of x = cond (eqb (letter_of x) 0) (x ∷ []) (92 ∷ letter_of x ∷ [])
 
 -- whether no byte is escaped
 unfoldable pub is_plain : List ℕ → Bool
 is_plain [] = true
-is_plain (x ∷ xs) = cond (eqb (letterOf x) 0) (is_plain xs) false
+is_plain (x ∷ xs) = cond (eqb (letter_of x) 0) (is_plain xs) false
 
 -- a backslash in front of the line tells that its name is escaped
 unfoldable pub mark_of : List ℕ → List ℕ

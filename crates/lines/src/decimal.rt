@@ -1,6 +1,6 @@
 // Numbers in decimal.
 ghost use Rattle.std.specs.Prelude.{◌+◌, ◌%◌, ◌≡◌};
-ghost use Rattle.lines.specs.Decimal.{decimalOf};
+ghost use Rattle.lines.specs.Decimal.{decimal_of};
 ghost use Rattle.lines.specs.Lines.{Put};
 
 use super::bytes::put;
@@ -14,7 +14,7 @@ fn last_digit(number: u64) -> u8
 
 // The digits that a number needs, at least one. They are found from the last one on, and stand at the end of `digits`.
 pub fn put_decimal(room: &mut [u8], at: usize, number: u64) -> usize
-    ensures { Put room.old at (decimalOf number) room.new result }
+    ensures { Put room.old at (decimal_of number) room.new result }
 {
     let mut digits = [0u8; 20];
     digits[19] = last_digit(number);

@@ -1,14 +1,14 @@
 // Bytes as hex digits.
 ghost use Rattle.std.specs.Prelude.{◌/◌, ◌%◌, ◌<◌, ◌≡◌};
 ghost use Rattle.lines.specs.Lines.{Put, spread};
-ghost use Rattle.lines.specs.Hexadecimal.{digitOf, digitsOf};
+ghost use Rattle.lines.specs.Hexadecimal.{digit_of, digits_of};
 
 use super::bytes::{put_byte, start};
 
 // The digit, in lower case, of a value below 16.
 fn digit(value: u8) -> u8
     requires { value < 16 }
-    ensures { result ≡ digitOf value }
+    ensures { result ≡ digit_of value }
 {
     if value < 10 {
         b'0' + value
@@ -18,20 +18,20 @@ fn digit(value: u8) -> u8
 }
 
 fn high_digit(byte: u8) -> u8
-    ensures { result ≡ digitOf (byte / 16) }
+    ensures { result ≡ digit_of (byte / 16) }
 {
     digit(byte / 16)
 }
 
 fn low_digit(byte: u8) -> u8
-    ensures { result ≡ digitOf (byte % 16) }
+    ensures { result ≡ digit_of (byte % 16) }
 {
     digit(byte % 16)
 }
 
 // Two digits for each byte.
 pub fn put_hex(room: &mut [u8], at: usize, bytes: &[u8]) -> usize
-    ensures { Put room.old at (spread digitsOf bytes.now) room.new result }
+    ensures { Put room.old at (spread digits_of bytes.now) room.new result }
 {
     let mut end = start(room.len(), at);
     for i in 0..bytes.len() {

@@ -1,13 +1,13 @@
 // Lines that hold a name from outside. A line end in it would begin a line of its own, so it is escaped as `sha256sum` does.
 ghost use Rattle.std.specs.Prelude.{◌≡◌, ◌++◌};
 ghost use Rattle.lines.specs.Lines.{Put, spread};
-ghost use Rattle.lines.specs.Names.{escapeOf, is_plain, letterOf, mark_of};
+ghost use Rattle.lines.specs.Names.{escape_of, is_plain, letter_of, mark_of};
 
 use super::bytes::{put, put_byte, start};
 
 // What stands behind the backslash of a byte that is escaped, and 0 for any other.
 fn letter(byte: u8) -> u8
-    ensures { result ≡ letterOf byte }
+    ensures { result ≡ letter_of byte }
 {
     if byte == b'\n' {
         return b'n';
@@ -22,7 +22,7 @@ fn letter(byte: u8) -> u8
 }
 
 fn put_escaped(room: &mut [u8], at: usize, byte: u8) -> usize
-    ensures { Put room.old at (escapeOf byte) room.new result }
+    ensures { Put room.old at (escape_of byte) room.new result }
 {
     let letter = letter(byte);
     if letter == 0 {
@@ -33,7 +33,7 @@ fn put_escaped(room: &mut [u8], at: usize, byte: u8) -> usize
 }
 
 fn put_name(room: &mut [u8], at: usize, name: &[u8]) -> usize
-    ensures { Put room.old at (spread escapeOf name.now) room.new result }
+    ensures { Put room.old at (spread escape_of name.now) room.new result }
 {
     let mut end = start(room.len(), at);
     for i in 0..name.len() {
@@ -65,7 +65,7 @@ fn put_mark(room: &mut [u8], at: usize, name: &[u8]) -> usize
 
 // A line with a name in it, between texts that are put as they are.
 pub fn put_named(room: &mut [u8], at: usize, before: &[u8], name: &[u8], after: &[u8]) -> usize
-    ensures { Put room.old at (mark_of name.now ++ before.now ++ spread escapeOf name.now ++ after.now) room.new result }
+    ensures { Put room.old at (mark_of name.now ++ before.now ++ spread escape_of name.now ++ after.now) room.new result }
 {
     let marked = put_mark(room, at, name);
     let begun = put(room, marked, before);

@@ -1,7 +1,7 @@
 // Why a call of the system failed, in the words of the C library.
 ghost use Rattle.std.specs.Prelude.{◌≡◌};
 ghost use Rattle.lines.specs.Lines.{Put};
-ghost use Rattle.lines.specs.Reasons.{number_of, reasonOf};
+ghost use Rattle.lines.specs.Reasons.{number_of, reason_of};
 
 use super::bytes::put;
 use super::decimal::put_decimal;
@@ -14,7 +14,7 @@ fn number(error: i32) -> u64
 }
 
 fn put_number(room: &mut [u8], at: usize, error: u64) -> usize
-    ensures { Put room.old at (reasonOf error) room.new result }
+    ensures { Put room.old at (reason_of error) room.new result }
 {
     if error == 2 {
         return put(room, at, b"No such file or directory");
@@ -47,7 +47,7 @@ fn put_number(room: &mut [u8], at: usize, error: u64) -> usize
 // The reason behind an error number of Linux: the text of those that opening, reading and writing files meet most, and `error N` for any
 // other.
 pub fn put_reason(room: &mut [u8], at: usize, error: i32) -> usize
-    ensures { Put room.old at (reasonOf (number_of error)) room.new result }
+    ensures { Put room.old at (reason_of (number_of error)) room.new result }
 {
     put_number(room, at, number(error))
 }

@@ -6,11 +6,11 @@ use Prim.Native.Nat.{ℕ}
 use native.Mathlib.Omega.{arith}
 use lib.Dec.{eqb, ltb}
 use lib.ListN.{get_or}
-use Rattle.steering.specs.Fingerprint.{fingerprintAnswer, message, place_of, refusalOf}
-use Rattle.steering.specs.Numbers.{bigEndian, bytes_of, either}
-use Rattle.steering.specs.Parsing.{Parsed, accepted, parse, parseFrom, refused}
-use Rattle.steering.specs.Reading.{readAt, recordAt}
-use Rattle.steering.specs.Records.{bodyLength, body_of, recordOf}
+use Rattle.steering.specs.Fingerprint.{fingerprint_answer, message, place_of, refusal_of}
+use Rattle.steering.specs.Numbers.{big_endian, bytes_of, either}
+use Rattle.steering.specs.Parsing.{Parsed, accepted, parse, parse_from, refused}
+use Rattle.steering.specs.Reading.{read_at, record_at}
+use Rattle.steering.specs.Records.{body_length, body_of, record_of}
 use Rattle.steering.specs.declared.fingerprinting.Fingerprinted.{Fingerprinted}
 use Rattle.steering.specs.declared.records.Record.{Record}
 
@@ -18,22 +18,22 @@ abbrev bodies : List Record → List ℕ
 bodies [] = []
 bodies (r ∷ rs) = body_of r ++ bodies rs
 
-abbrev bodiesOf : Parsed → List ℕ
-bodiesOf (accepted rs) = bodies rs
-bodiesOf (refused number place) = []
+abbrev bodies_of : Parsed → List ℕ
+bodies_of (accepted rs) = bodies rs
+bodies_of (refused number place) = []
 
 -- a join floor of 3c at 2.4 GHz
-pub bodies-only-differs : message (2 ∷ 0 ∷ 60 ∷ []) ≡ bodiesOf (parse (2 ∷ 0 ∷ 60 ∷ [])) → ⊥
-unfolding bytes_of bigEndian parseFrom readAt recordAt bodyLength recordOf
-bodies-only-differs e = let z : ◌≡◌ {A = ℕ} 2 0 = ap (λ (l : List ℕ). get_or l 0 0) e in omega arith
+pub bodies_only_differs : message (2 ∷ 0 ∷ 60 ∷ []) ≡ bodies_of (parse (2 ∷ 0 ∷ 60 ∷ [])) → ⊥
+unfolding bytes_of big_endian parse_from read_at record_at body_length record_of
+bodies_only_differs e = let z : ◌≡◌ {A = ℕ} 2 0 = ap (λ (l : List ℕ). get_or l 0 0) e in omega arith
 
 abbrev unchecked : ℕ → ℕ → Parsed → Fingerprinted
 unchecked saltLength room parsed =
     either (eqb saltLength 16)
-    (either (ltb room 31) (record { refusal = 5; place = 0 }) (record { refusal = refusalOf parsed; place = place_of parsed }))
+    (either (ltb room 31) (record { refusal = 5; place = 0 }) (record { refusal = refusal_of parsed; place = place_of parsed }))
     (record { refusal = 2; place = 0 })
 
 -- the empty table and a room of 31 bytes
-pub room-unchecked-differs : fingerprintAnswer 16 31 (accepted []) ≡ unchecked 16 31 (accepted []) → ⊥
-unfolding fingerprintAnswer
-room-unchecked-differs e = let z : ◌≡◌ {A = ℕ} 5 0 = ap (λ (f : Fingerprinted). f.refusal) e in omega arith
+pub room_unchecked_differs : fingerprint_answer 16 31 (accepted []) ≡ unchecked 16 31 (accepted []) → ⊥
+unfolding fingerprint_answer
+room_unchecked_differs e = let z : ◌≡◌ {A = ℕ} 5 0 = ap (λ (f : Fingerprinted). f.refusal) e in omega arith

@@ -10,9 +10,9 @@ abbrev pub AreBytes : List ℕ → Type 0
 AreBytes l = (k : ℕ) → get_or l k 0 < 256
 
 -- the number that a list of bytes stands for
-unfoldable pub bigEndian : List ℕ → ℕ
-bigEndian [] = 0
-bigEndian (x ∷ xs) = x * 256 ^ length xs + bigEndian xs
+unfoldable pub big_endian : List ℕ → ℕ
+big_endian [] = 0
+big_endian (x ∷ xs) = x * 256 ^ length xs + big_endian xs
 
 -- a number as so many bytes
 unfoldable pub bytes_of : ℕ → ℕ → List ℕ
@@ -21,4 +21,4 @@ bytes_of (suc n) x = x / 256 ^ n % 256 ∷ bytes_of n x
 
 -- the number of the n bytes from a place on
 abbrev pub number_at : ℕ → ℕ → List ℕ → ℕ
-number_at n at l = bigEndian (take n (drop at l))
+number_at n at l = big_endian (take n (drop at l))

@@ -1,6 +1,6 @@
 -- A whole table: its records in order, or the refusal of the record nearest the front. Assumes nothing.
 use Rattle.std.specs.Prelude.{List, [], ◌∷◌, ◌++◌, ℕ, zero, suc, length}
-use Rattle.steering.specs.Reading.{readAt}
+use Rattle.steering.specs.Reading.{read_at}
 use Rattle.steering.specs.Records.{Fits, body_of, kind_of}
 use Rattle.steering.specs.declared.counting.Counted.{Counted}
 use Rattle.steering.specs.declared.reading.Reading.{Reading}
@@ -12,24 +12,24 @@ pub data Parsed : Type 0 where
   accepted : List Record → Parsed
   refused : ℕ → ℕ → Parsed
 
-abbrev pub inFront : Record → Parsed → Parsed
-inFront r (accepted rs) = accepted (r ∷ rs)
-inFront r (refused number place) = refused number place
+abbrev pub in_front : Record → Parsed → Parsed
+in_front r (accepted rs) = accepted (r ∷ rs)
+in_front r (refused number place) = refused number place
 
 -- what was read, and the parse of the rest from the next place on
-abbrev pub goOn : Reading → (ℕ → Parsed) → Parsed
-goOn (Found r next) rest = inFront r (rest next)
-goOn End rest = accepted []
-goOn (Refused number place) rest = refused number place
+abbrev pub go_on : Reading → (ℕ → Parsed) → Parsed
+go_on (Found r next) rest = in_front r (rest next)
+go_on End rest = accepted []
+go_on (Refused number place) rest = refused number place
 
 -- from a place on; the first argument is above the number of records, so that its 0 is never met
-unfoldable pub parseFrom : ℕ → List ℕ → ℕ → Parsed
-parseFrom zero table place = refused 8 0
-parseFrom (suc n) table place = goOn (readAt table place) (parseFrom n table)
+unfoldable pub parse_from : ℕ → List ℕ → ℕ → Parsed
+parse_from zero table place = refused 8 0
+parse_from (suc n) table place = go_on (read_at table place) (parse_from n table)
 
 -- a table has no more records than bytes
 abbrev pub parse : List ℕ → Parsed
-parse table = parseFrom (suc (length table)) table 0
+parse table = parse_from (suc (length table)) table 0
 
 -- the count of the records, 0 where the table is refused
 abbrev pub count_of : Parsed → Counted

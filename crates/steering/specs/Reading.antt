@@ -1,24 +1,24 @@
 -- What stands at a place of a table. Assumes nothing.
 use Rattle.std.specs.Prelude.{List, ℕ, ◌+◌, ◌-◌, eqb, ltb, drop, get_or, length, take}
 use Rattle.steering.specs.Numbers.{either}
-use Rattle.steering.specs.Records.{bodyLength, recordOf}
+use Rattle.steering.specs.Records.{body_length, record_of}
 use Rattle.steering.specs.declared.reading.Reading.{Reading}
 use Rattle.steering.specs.declared.reading.Reading.TheVariants.{End, Found, Refused}
 
 -- the record whose kind byte stands at a place: 9 where no record has that kind, 10 where the table ends within the body
-unfoldable pub recordAt : List ℕ → ℕ → ℕ → Reading
-recordAt table place kind =
-    either (eqb (bodyLength kind) 0) (Refused 9 place)
-    (either (ltb (length table - (place + 1)) (bodyLength kind)) (Refused 10 place)
-    (Found (recordOf kind (take (bodyLength kind) (drop (place + 1) table))) (place + 1 + bodyLength kind)))
+unfoldable pub record_at : List ℕ → ℕ → ℕ → Reading
+record_at table place kind =
+    either (eqb (body_length kind) 0) (Refused 9 place)
+    (either (ltb (length table - (place + 1)) (body_length kind)) (Refused 10 place)
+    (Found (record_of kind (take (body_length kind) (drop (place + 1) table))) (place + 1 + body_length kind)))
 
 -- 6 where the place is past the end, 8 where the table is over 4096 bytes
-unfoldable pub readAt : List ℕ → ℕ → Reading
-readAt table place =
+unfoldable pub read_at : List ℕ → ℕ → Reading
+read_at table place =
     either (ltb (length table) place) (Refused 6 0)
     (either (ltb 4096 (length table)) (Refused 8 0)
     (either (eqb place (length table)) End
-    (recordAt table place (get_or table place 0))))
+    (record_at table place (get_or table place 0))))
 
 -- the refusal number of what was read; 0 where a record stands there, or the end
 abbrev pub number_of : Reading → ℕ

@@ -7,8 +7,8 @@ use Rattle.steering.specs.declared.records.Record.{Record}
 use Rattle.steering.specs.declared.records.Record.TheVariants.{Floor, Hold, Node, Note}
 
 -- 1 node address, 2 and 3 join floor at 2.4 and 5 GHz, 4 hold time, 5 note; 0 for any other kind
-unfoldable pub bodyLength : ℕ → ℕ
-bodyLength kind =
+unfoldable pub body_length : ℕ → ℕ
+body_length kind =
     either (eqb kind 1) 6
     (either (eqb kind 2) 2
     (either (eqb kind 3) 2
@@ -17,13 +17,13 @@ bodyLength kind =
 
 -- ---- a record's kind and body, from its values
 
-abbrev pub floorKind : Radio → ℕ
-floorKind Low = 2
-floorKind High = 3
+abbrev pub floor_kind : Radio → ℕ
+floor_kind Low = 2
+floor_kind High = 3
 
 abbrev pub kind_of : Record → ℕ
 kind_of (Node a) = 1
-kind_of (Floor f) = floorKind f.radio
+kind_of (Floor f) = floor_kind f.radio
 kind_of (Hold h) = 4
 kind_of (Note n) = 5
 
@@ -36,8 +36,8 @@ body_of (Note n) = bytes_of 8 n.first ++ bytes_of 8 n.second ++ bytes_of 8 n.thi
 -- ---- a record from its kind and body
 
 -- of a kind from 1 to 5
-unfoldable pub recordOf : ℕ → List ℕ → Record
-recordOf kind body =
+unfoldable pub record_of : ℕ → List ℕ → Record
+record_of kind body =
     either (eqb kind 1) (Node (record { address = number_at 6 0 body }))
     (either (eqb kind 2) (Floor (record { radio = Low; level = number_at 2 0 body }))
     (either (eqb kind 3) (Floor (record { radio = High; level = number_at 2 0 body }))

@@ -1,6 +1,6 @@
 // The fingerprint of a table.
 ghost use Rattle.std.specs.Prelude.{◌≡◌, length};
-ghost use Rattle.steering.specs.Fingerprint.{fingerprintAnswer, fingerprintLeaves};
+ghost use Rattle.steering.specs.Fingerprint.{fingerprint_answer, fingerprint_leaves};
 ghost use Rattle.steering.specs.Parsing.{parse};
 
 use super::counting::count;
@@ -15,7 +15,7 @@ pub struct Fingerprinted {
 
 // What a fingerprint is refused for, by the lengths of salt and room and by the table.
 fn refusal_of(salt: usize, room: usize, table: &[u8]) -> Fingerprinted
-    ensures { result ≡ fingerprintAnswer salt room (parse table.now) }
+    ensures { result ≡ fingerprint_answer salt room (parse table.now) }
 {
     if salt != 16 {
         return Fingerprinted {
@@ -37,11 +37,11 @@ fn refusal_of(salt: usize, room: usize, table: &[u8]) -> Fingerprinted
 }
 
 // Puts the 256-bit digest, in double-pipe, of the whole table, which is read where it lies, at the front of `out`, whose bytes behind it stay; or refuses by
-// 2, 5, 8, 9 or 10 and writes nothing. The digest layer takes each table that gets that far (`the-digest-layer-takes-each-message`), so its
+// 2, 5, 8, 9 or 10 and writes nothing. The digest layer takes each table that gets that far (`the_digest_layer_takes_each_message`), so its
 // number, which is 0, is not looked at.
 pub fn fingerprint(salt: &[u8], table: &[u8], out: &mut [u8]) -> Fingerprinted
-    ensures answer { result ≡ fingerprintAnswer (length salt.now) (length out.old) (parse table.now) }
-    ensures left { out.new ≡ fingerprintLeaves salt.now table.now out.old }
+    ensures answer { result ≡ fingerprint_answer (length salt.now) (length out.old) (parse table.now) }
+    ensures left { out.new ≡ fingerprint_leaves salt.now table.now out.old }
 {
     let answer = refusal_of(salt.len(), out.len(), table);
     let refused = answer.refusal;

@@ -1,6 +1,6 @@
 // Reading a table at a place.
 ghost use Rattle.std.specs.Prelude.{◌≡◌};
-ghost use Rattle.steering.specs.Reading.{readAt};
+ghost use Rattle.steering.specs.Reading.{read_at};
 
 use super::records::{Record, body_length, record_of};
 
@@ -27,7 +27,7 @@ fn refused(number: u8, place: usize) -> Reading
 // The record at a place, or the end; or a refusal by 6 (the place is past the end), 8 (the table is over 4,096 bytes), 9 (unknown kind) or
 // 10 (cut short).
 pub fn read_at(table: &[u8], place: usize) -> Reading
-    ensures { result ≡ readAt table.now place }
+    ensures { result ≡ read_at table.now place }
 {
     let n = table.len();
     if n < place {

@@ -1,6 +1,6 @@
 // The records of a steering table.
 ghost use Rattle.std.specs.Prelude.{◌≡◌, ◌<◌, length};
-ghost use Rattle.steering.specs.Records.{bodyLength, recordOf};
+ghost use Rattle.steering.specs.Records.{body_length, record_of};
 
 use super::numbers::{eight, four, six, two};
 
@@ -46,7 +46,7 @@ pub enum Record {
 
 // How many bytes follow a kind byte; 0 where no record has that kind.
 pub(crate) fn body_length(kind: u8) -> usize
-    ensures { result ≡ bodyLength kind }
+    ensures { result ≡ body_length kind }
 {
     if kind == 1 {
         return 6;
@@ -68,9 +68,9 @@ pub(crate) fn body_length(kind: u8) -> usize
 
 // The record of a kind whose body is given whole.
 pub(crate) fn record_of(kind: u8, body: &[u8]) -> Record
-    requires kind_nonzero { 0 < bodyLength kind }
-    requires body_len { length body.now ≡ bodyLength kind }
-    ensures { result ≡ recordOf kind body.now }
+    requires kind_nonzero { 0 < body_length kind }
+    requires body_len { length body.now ≡ body_length kind }
+    ensures { result ≡ record_of kind body.now }
 {
     if kind == 1 {
         return Record::Node(NodeAddress {

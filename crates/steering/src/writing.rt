@@ -2,7 +2,7 @@
 ghost use Rattle.std.specs.Prelude.{◌≡◌, ◌+◌, ◌≤◌, ltb, length};
 ghost use Rattle.std.proofs.lemmas.List.Edits.{sets};
 ghost use Rattle.steering.specs.Records.{body_of, kind_of};
-ghost use Rattle.steering.specs.Writing.{addressTooHigh, writeAnswer, writeBodyAnswer, writeBodyLeaves, writeLeaves};
+ghost use Rattle.steering.specs.Writing.{address_too_high, write_answer, write_body_answer, write_body_leaves, write_leaves};
 
 use super::numbers::{put_eight, put_four, put_six, put_two};
 use super::records::{Note, Radio, Record, body_length, record_of};
@@ -43,7 +43,7 @@ pub fn kind_of(given: Record) -> u8
 
 // Whether the record is a node's whose address has more than six bytes.
 fn is_too_high(given: Record) -> bool
-    ensures { result ≡ addressTooHigh given }
+    ensures { result ≡ address_too_high given }
 {
     match given {
         Record::Node(node) => 0x1_0000_0000_0000 <= node.address,
@@ -90,8 +90,8 @@ fn is_short(room: usize, place: usize, more: usize) -> bool
 // Puts a record at a place of the room, its kind byte first, and answers the place behind it; or refuses by 5 (the room from the place on is too short) or
 // 12 (an address of 2^48 or more) and writes nothing.
 pub fn write_at(room: &mut [u8], place: usize, given: Record) -> Written
-    ensures answer { result ≡ writeAnswer (length room.old) place given }
-    ensures left { room.new ≡ writeLeaves room.old place given }
+    ensures answer { result ≡ write_answer (length room.old) place given }
+    ensures left { room.new ≡ write_leaves room.old place given }
 {
     let kind = kind_of(given);
     let length = body_length(kind);
@@ -113,8 +113,8 @@ pub fn write_at(room: &mut [u8], place: usize, given: Record) -> Written
 // The same of a record whose kind byte and body are given; or refuses by 5, 9 (no record has that kind) or 10 (the body is not as long as its kind's) and
 // writes nothing.
 pub fn write_body_at(room: &mut [u8], place: usize, kind: u8, body: &[u8]) -> Written
-    ensures answer { result ≡ writeBodyAnswer (length room.old) place kind (length body.now) }
-    ensures left { room.new ≡ writeBodyLeaves room.old place kind body.now }
+    ensures answer { result ≡ write_body_answer (length room.old) place kind (length body.now) }
+    ensures left { room.new ≡ write_body_leaves room.old place kind body.now }
 {
     if is_short(room.len(), place, body.len()) {
         return refused(5);

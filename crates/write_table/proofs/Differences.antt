@@ -6,22 +6,22 @@ use mathlib.Core.List.{List, [], ◌∷◌}
 use Prim.Native.Nat.{ℕ}
 use native.Mathlib.Omega.{arith}
 use lib.ListN.{take}
-use Rattle.lines.proofs.Promises.{three-digits}
+use Rattle.lines.proofs.Promises.{three_digits}
 use Rattle.write_table.specs.declared.line.Line.{Line}
 use Rattle.write_table.specs.declared.line.Line.TheVariants.{Count, Unreadable}
-use Rattle.write_table.specs.Line.{countLine, digitsIn, isFramed, line_of, recordIn, sameOf}
+use Rattle.write_table.specs.Line.{count_line, digits_in, is_framed, line_of, record_in, same_of}
 
 abbrev unread : ℕ → List ℕ → Line
-unread count line = cond (sameOf (take 8 line) (take 8 (countLine count))) Count (recordIn line)
+unread count line = cond (same_of (take 8 line) (take 8 (count_line count))) Count (record_in line)
 
 -- `records ` without a number
 abbrev line : List ℕ
 line = 114 ∷ 101 ∷ 99 ∷ 111 ∷ 114 ∷ 100 ∷ 115 ∷ 32 ∷ []
 
 -- behind a hundred records
-pub count-unread-differs : line_of 100 line ≡ unread 100 line → ⊥
-unfolding line_of sameOf recordIn digitsIn isFramed
-count-unread-differs e =
-    let none : line_of 100 line ≡ Unreadable = rw (three-digits 100 (omega arith) (omega arith)) in
+pub count_unread_differs : line_of 100 line ≡ unread 100 line → ⊥
+unfolding line_of same_of record_in digits_in is_framed
+count_unread_differs e =
+    let none : line_of 100 line ≡ Unreadable = rw (three_digits 100 (omega arith) (omega arith)) in
     let z : ◌≡◌ {A = ℕ} 0 1 = cc in
     omega arith

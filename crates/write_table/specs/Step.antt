@@ -6,18 +6,18 @@ use Rattle.write_table.specs.declared.line.Line.{Line}
 use Rattle.write_table.specs.declared.line.Line.TheVariants.{Count, Record, Unreadable}
 use Rattle.write_table.specs.declared.text.Step.{Step}
 
-abbrev pub badAt : ℕ → Step
-badAt line = record { is_over = true; bad_line = line; size = 0 }
+abbrev pub bad_at : ℕ → Step
+bad_at line = record { is_over = true; bad_line = line; size = 0 }
 
 -- what a line comes to behind so many records in so many bytes
 abbrev pub step_of : Line → ℕ → ℕ → Bool → Step
 step_of (Record r) count size is_last =
-    cond (leb (size + suc (length (body_of r))) 4096) (record { is_over = false; bad_line = 0; size = size + suc (length (body_of r)) }) (badAt (count + 1))
-step_of Count count size is_last = cond is_last (record { is_over = true; bad_line = 0; size = size }) (badAt (count + 2))
-step_of Unreadable count size is_last = badAt (count + 1)
+    cond (leb (size + suc (length (body_of r))) 4096) (record { is_over = false; bad_line = 0; size = size + suc (length (body_of r)) }) (bad_at (count + 1))
+step_of Count count size is_last = cond is_last (record { is_over = true; bad_line = 0; size = size }) (bad_at (count + 2))
+step_of Unreadable count size is_last = bad_at (count + 1)
 
 -- what it leaves in the room
-abbrev pub stepLeaves : Line → ℕ → List ℕ → List ℕ
-stepLeaves (Record r) size room = cond (leb (size + suc (length (body_of r))) 4096) (put_at room size (kind_of r ∷ body_of r)) room
-stepLeaves Count size room = room
-stepLeaves Unreadable size room = room
+abbrev pub step_leaves : Line → ℕ → List ℕ → List ℕ
+step_leaves (Record r) size room = cond (leb (size + suc (length (body_of r))) 4096) (put_at room size (kind_of r ∷ body_of r)) room
+step_leaves Count size room = room
+step_leaves Unreadable size room = room

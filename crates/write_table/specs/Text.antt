@@ -8,39 +8,39 @@ use Rattle.write_table.specs.Line.{line_of}
 
 pub data Text : Type 0 where
   table : List ℕ → Text
-  badLine : ℕ → Text
+  bad_line : ℕ → Text
 
 -- what a line comes to behind so many records, whose bytes are given: the bytes of one record more, of which at most 4096 are a table, and then
 -- the rest of the text; or the end, behind which nothing comes. Each line before it was a record's, so that its own number is count + 1
-abbrev pub goOn : Line → ℕ → List ℕ → Bool → (List ℕ → Text) → Text
-goOn (Record r) count bytes is_last rest =
-    cond (leb (length bytes + suc (length (body_of r))) 4096) (rest (bytes ++ (kind_of r ∷ body_of r))) (badLine (count + 1))
-goOn Count count bytes is_last rest = cond is_last (table bytes) (badLine (count + 2))
-goOn Unreadable count bytes is_last rest = badLine (count + 1)
+abbrev pub go_on : Line → ℕ → List ℕ → Bool → (List ℕ → Text) → Text
+go_on (Record r) count bytes is_last rest =
+    cond (leb (length bytes + suc (length (body_of r))) 4096) (rest (bytes ++ (kind_of r ∷ body_of r))) (bad_line (count + 1))
+go_on Count count bytes is_last rest = cond is_last (table bytes) (bad_line (count + 2))
+go_on Unreadable count bytes is_last rest = bad_line (count + 1)
 
-abbrev pub isNil : List ℕ → Bool
-isNil [] = true
-isNil (x ∷ xs) = false
+abbrev pub is_nil : List ℕ → Bool
+is_nil [] = true
+is_nil (x ∷ xs) = false
 
 -- the rest of a text, behind the bytes of a line that has not ended. `more` tells whether the input goes on behind the text
-unfoldable pub textFrom : Bool → List ℕ → ℕ → List ℕ → List ℕ → Text
-textFrom more line count bytes [] = badLine (count + 1)
-textFrom more line count bytes (x ∷ rest) =
+unfoldable pub text_from : Bool → List ℕ → ℕ → List ℕ → List ℕ → Text
+text_from more line count bytes [] = bad_line (count + 1)
+text_from more line count bytes (x ∷ rest) =
     cond (eqb x 10)
-    (goOn (line_of count line) count bytes (isNil rest && not more) (λ longer. textFrom more [] (count + 1) longer rest))
-    (textFrom more (line ++ (x ∷ [])) count bytes rest)
+    (go_on (line_of count line) count bytes (is_nil rest && not more) (λ longer. text_from more [] (count + 1) longer rest))
+    (text_from more (line ++ (x ∷ [])) count bytes rest)
 
 -- the text is the first 65,536 bytes of the input
 abbrev pub text_of : Bool → List ℕ → Text
-text_of more text = textFrom more [] 0 [] text
+text_of more text = text_from more [] 0 [] text
 
 -- ---- as the code answers
 
 -- the bad line, 0 for none; and how long the table is, 0 where a line is bad
 abbrev pub made_of : Text → Made
 made_of (table bytes) = record { bad_line = 0; size = length bytes }
-made_of (badLine n) = record { bad_line = n; size = 0 }
+made_of (bad_line n) = record { bad_line = n; size = 0 }
 
-abbrev pub bytesMade : Text → List ℕ
-bytesMade (table bytes) = bytes
-bytesMade (badLine n) = []
+abbrev pub bytes_made : Text → List ℕ
+bytes_made (table bytes) = bytes
+bytes_made (bad_line n) = []

@@ -1,7 +1,7 @@
 // Hex digits as the lister prints them.
 ghost use Rattle.std.specs.Prelude.{◌+◌, ◌/◌, ◌≤◌, true, ◌≡◌, length};
 ghost use Rattle.std.proofs.lemmas.List.Edits.{sets};
-ghost use Rattle.write_table.specs.Hexadecimal.{isHex, pairsOf, value_of};
+ghost use Rattle.write_table.specs.Hexadecimal.{is_hex, pairs_of, value_of};
 
 use digits::nibble;
 
@@ -22,8 +22,8 @@ fn value(digit: u8) -> u8
 // was put there means nothing.
 pub(crate) fn pairs_in(text: &[u8], room: &mut [u8], from: usize) -> bool
     requires { from + length text.now / 2 ≤ length room.old }
-    ensures good { result ≡ isHex text.now }
-    ensures left { result ≡ true → room.new ≡ sets room.old from (pairsOf text.now) }
+    ensures good { result ≡ is_hex text.now }
+    ensures left { result ≡ true → room.new ≡ sets room.old from (pairs_of text.now) }
 {
     let pairs = text.len() / 2;
     for i in 0..pairs {

@@ -5,7 +5,7 @@
 //
 // A line is without its line end here. The place may be any digits, and is not looked at.
 ghost use Rattle.std.specs.Prelude.{◌≡◌, ◌+◌, ◌≤◌, length};
-ghost use Rattle.write_table.specs.Line.{alone, countLine, digitsIn, isFramed, line_of, recordBehind, recordIn, sameOf};
+ghost use Rattle.write_table.specs.Line.{alone, count_line, digits_in, is_framed, line_of, record_behind, record_in, same_of};
 
 use super::hexadecimal::pairs_in;
 use lines::{put, put_decimal};
@@ -21,7 +21,7 @@ pub(crate) enum Line {
 
 // How many bytes at the front are decimal digits.
 fn digits_in(line: &[u8]) -> usize
-    ensures count { result ≡ digitsIn line.now }
+    ensures count { result ≡ digits_in line.now }
     ensures within { result ≤ length line.now }
 {
     for i in 0..line.len() {
@@ -39,7 +39,7 @@ fn digits_in(line: &[u8]) -> usize
 // Whether a space, two bytes and a space stand behind the digits, of which there is at least one.
 fn is_framed(line: &[u8], at: usize) -> bool
     requires { at ≤ length line.now }
-    ensures { result ≡ isFramed line.now at }
+    ensures { result ≡ is_framed line.now at }
 {
     if at == 0 {
         return false;
@@ -76,7 +76,7 @@ fn record_of(bytes: &[u8]) -> Line
 // The record of a line whose place ends at `at`. No body has more than 64 digits.
 fn record_behind(line: &[u8], at: usize) -> Line
     requires { at + 4 ≤ length line.now }
-    ensures { result ≡ recordBehind line.now at }
+    ensures { result ≡ record_behind line.now at }
 {
     let all = line.len();
     let kind = at + 1;
@@ -98,7 +98,7 @@ fn record_behind(line: &[u8], at: usize) -> Line
 
 // The record of a line that has a place in front of it.
 fn record_in(line: &[u8]) -> Line
-    ensures { result ≡ recordIn line.now }
+    ensures { result ≡ record_in line.now }
 {
     let at = digits_in(line);
     if !is_framed(line, at) {
@@ -109,7 +109,7 @@ fn record_in(line: &[u8]) -> Line
 
 // Whether the line is that of so many records, as the lister prints it.
 fn is_count(line: &[u8], count: usize) -> bool
-    ensures { result ≡ sameOf line.now (countLine count) }
+    ensures { result ≡ same_of line.now (count_line count) }
 {
     let mut right = [0u8; 28];
     let named = put(&mut right, 0, b"records ");

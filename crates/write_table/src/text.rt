@@ -1,8 +1,8 @@
 // A whole text, made a table.
 ghost use Rattle.std.specs.Prelude.{cond, false, ◌≡◌, ◌≤◌, eqb, length, take};
 ghost use Rattle.steering.specs.Records.{Fits};
-ghost use Rattle.write_table.specs.Text.{bytesMade, made_of, text_of};
-ghost use Rattle.write_table.specs.Step.{badAt, stepLeaves, step_of};
+ghost use Rattle.write_table.specs.Text.{bytes_made, made_of, text_of};
+ghost use Rattle.write_table.specs.Step.{bad_at, step_leaves, step_of};
 ghost use Rattle.write_table.specs.Line.{line_of};
 
 use super::line::{Line, line_in};
@@ -24,7 +24,7 @@ struct Step {
 }
 
 fn bad(line: usize) -> Step
-    ensures { result ≡ badAt line }
+    ensures { result ≡ bad_at line }
 {
     Step {
         is_over: true,
@@ -38,7 +38,7 @@ fn take_record(given: Record, count: usize, size: usize, room: &mut [u8]) -> Ste
     requires fits { Fits given }
     requires room_len { (length room.old ≡ 4096) × (count ≤ 65536) }
     ensures step { result ≡ step_of (Line.Record given) count size false }
-    ensures left { room.new ≡ stepLeaves (Line.Record given) size room.old }
+    ensures left { room.new ≡ step_leaves (Line.Record given) size room.old }
 {
     let written = steering::write_at(room, size, given);
     if written.refusal != 0 {
@@ -69,7 +69,7 @@ fn take_count(count: usize, size: usize, is_last: bool) -> Step
 fn take_line(line: &[u8], count: usize, size: usize, is_last: bool, room: &mut [u8]) -> Step
     requires { (length room.old ≡ 4096) × (count ≤ 65536) }
     ensures step { result ≡ step_of (line_of count line.now) count size is_last }
-    ensures left { room.new ≡ stepLeaves (line_of count line.now) size room.old }
+    ensures left { room.new ≡ step_leaves (line_of count line.now) size room.old }
 {
     match line_in(line, count) {
         Line::Record(given) => take_record(given, count, size, room),
@@ -94,7 +94,7 @@ pub(crate) fn table_in(text: &[u8], goes_on: bool, room: &mut [u8]) -> Made
     requires room_len { length room.old ≡ 4096 }
     requires text_len_bound { length text.now ≤ 65536 }
     ensures made { result ≡ made_of (text_of goes_on text.now) }
-    ensures left { take result.size room.new ≡ bytesMade (text_of goes_on text.now) }
+    ensures left { take result.size room.new ≡ bytes_made (text_of goes_on text.now) }
 {
     let n = text.len();
     let mut from = 0;

@@ -8,9 +8,9 @@ use lib.Dec.{T, eqb, eqb→eq, lit<, ltb, ltb→lt}
 use lib.ListN.{get_or}
 use Rattle.aes_round.specs.Bytes.{xor}
 use Rattle.aes_round.specs.Field.{mul}
-use Rattle.aes_round.specs.Substitution.{Table, Undo, affine, affineBack, inverse, squares, subByte, subByteBack}
+use Rattle.aes_round.specs.Substitution.{Table, Undo, affine, affine_back, inverse, squares, sub_byte, sub_byte_back}
 use Rattle.aes_round.proofs.Laws.Every.{agree, below, both, both_left, both_right, every}
-use Rattle.aes_round.proofs.Laws.Field.{mul_assoc, mul_comm, mul-lt, mul-one-l, mul-zero-l}
+use Rattle.aes_round.proofs.Laws.Field.{mul_assoc, mul_comm, mul_lt, mul_one_l, mul_zero_l}
 
 -- ---- tables
 
@@ -20,24 +20,24 @@ table_at f t rule = rule
 
 -- ---- the inverse
 
-pub inverse-zero : inverse 0 ≡ 0
+pub inverse_zero : inverse 0 ≡ 0
 unfolding mul xor
-inverse-zero = refl
+inverse_zero = refl
 
-pub inverse-is : (x : ℕ) → 0 < x → x < 256 → mul x (inverse x) ≡ 1
+pub inverse_is : (x : ℕ) → 0 < x → x < 256 → mul x (inverse x) ≡ 1
 unfolding mul xor
-inverse-is x p h = agree (λ x. mul x (inverse x)) (λ x. min x 1) 256 tt x h ∙ omega arith
+inverse_is x p h = agree (λ x. mul x (inverse x)) (λ x. min x 1) 256 tt x h ∙ omega arith
 
-squares-lt : (n x : ℕ) → x < 256 → squares n x < 256
-squares-lt zero x h = lit< tt
-squares-lt (suc n) x h = mul-lt _ _ (mul-lt x x h h) (squares-lt n (mul x x) (mul-lt x x h h))
+squares_lt : (n x : ℕ) → x < 256 → squares n x < 256
+squares_lt zero x h = lit< tt
+squares_lt (suc n) x h = mul_lt _ _ (mul_lt x x h h) (squares_lt n (mul x x) (mul_lt x x h h))
 
-inverse-lt : (x : ℕ) → x < 256 → inverse x < 256
-inverse-lt = squares-lt 7
+inverse_lt : (x : ℕ) → x < 256 → inverse x < 256
+inverse_lt = squares_lt 7
 
 -- no inverse but 0's is 0
-inverse-pos : (x : ℕ) → 0 < x → x < 256 → 0 < inverse x
-inverse-pos x p h = positive (inverse x) (λ z. no (sym (ap (mul x) z ∙ mul_comm x 0 h (lit< tt) ∙ mul-zero-l x) ∙ inverse-is x p h))
+inverse_pos : (x : ℕ) → 0 < x → x < 256 → 0 < inverse x
+inverse_pos x p h = positive (inverse x) (λ z. no (sym (ap (mul x) z ∙ mul_comm x 0 h (lit< tt) ∙ mul_zero_l x) ∙ inverse_is x p h))
   where
     no : ◌≡◌ {A = ℕ} 0 1 → ⊥
     no e = omega arith
@@ -47,28 +47,28 @@ inverse-pos x p h = positive (inverse x) (λ z. no (sym (ap (mul x) z ∙ mul_co
     positive (suc n) f = omega arith
 
 -- with y the inverse of x, and z that of y: x = x (y z) = (x y) z = z
-inverse-twice : (x : ℕ) → x < 256 → inverse (inverse x) ≡ x
-inverse-twice zero h = ap inverse inverse-zero ∙ inverse-zero
-inverse-twice (suc n) h =
+inverse_twice : (x : ℕ) → x < 256 → inverse (inverse x) ≡ x
+inverse_twice zero h = ap inverse inverse_zero ∙ inverse_zero
+inverse_twice (suc n) h =
     let x = suc n in
     let y = inverse x in
-    let hy : y < 256 = inverse-lt x h in
+    let hy : y < 256 = inverse_lt x h in
     let z = inverse y in
-    let hz : z < 256 = inverse-lt y hy in
-    sym (mul-one-l z hz)
-    ∙ ap (λ (u : ℕ). mul u z) (sym (inverse-is x (omega arith) h))
+    let hz : z < 256 = inverse_lt y hy in
+    sym (mul_one_l z hz)
+    ∙ ap (λ (u : ℕ). mul u z) (sym (inverse_is x (omega arith) h))
     ∙ mul_assoc x y z h hy hz
-    ∙ ap (mul x) (inverse-is y (inverse-pos x (omega arith) h) hy)
+    ∙ ap (mul x) (inverse_is y (inverse_pos x (omega arith) h) hy)
     ∙ mul_comm x 1 h (lit< tt)
-    ∙ mul-one-l x h
+    ∙ mul_one_l x h
 
 -- e passes as the inverse of a: a byte whose product with a is 1, and 0 for 0
 abbrev pub IsInverse : ℕ → ℕ → Bool
 IsInverse a e = both (ltb e 256) (both (eqb (mul a e) (min a 1)) (eqb (min e 1) (min a 1)))
 
 -- only the inverse passes: with y the inverse of a, e = 1 e = (y a) e = y (a e) = y 1 = y. One product in the test, where x^254 has thirteen.
-inverse-only : (a e : ℕ) → a < 256 → T (IsInverse a e) → e ≡ inverse a
-inverse-only a e h t =
+inverse_only : (a e : ℕ) → a < 256 → T (IsInverse a e) → e ≡ inverse a
+inverse_only a e h t =
     by a h (ltb→lt e 256 (both_left (ltb e 256) rest t)) (eqb→eq (mul a e) (min a 1) (both_left product none (both_right (ltb e 256) rest t)))
     (eqb→eq (min e 1) (min a 1) (both_right product none (both_right (ltb e 256) rest t)))
   where
@@ -82,69 +82,69 @@ inverse-only a e h t =
     rest = both product none
 
     by : (a : ℕ) → a < 256 → e < 256 → mul a e ≡ min a 1 → min e 1 ≡ min a 1 → e ≡ inverse a
-    by zero h he p q = omega (arith, q) ∙ sym inverse-zero
+    by zero h he p q = omega (arith, q) ∙ sym inverse_zero
     by (suc n) h he p q =
         let a = suc n in
         let y = inverse a in
-        let hy : y < 256 = inverse-lt a h in
+        let hy : y < 256 = inverse_lt a h in
         let one : min a 1 ≡ 1 = omega arith in
-        sym (mul-one-l e he)
-        ∙ ap (λ (u : ℕ). mul u e) (sym (inverse-is a (omega arith) h) ∙ mul_comm a y h hy)
+        sym (mul_one_l e he)
+        ∙ ap (λ (u : ℕ). mul u e) (sym (inverse_is a (omega arith) h) ∙ mul_comm a y h hy)
         ∙ mul_assoc y a e hy h he
         ∙ ap (mul y) (p ∙ one)
         ∙ mul_comm y 1 hy (lit< tt)
-        ∙ mul-one-l y hy
+        ∙ mul_one_l y hy
 
 -- ---- the affine map
 
-affine-undone : (x : ℕ) → x < 256 → affineBack (affine x) ≡ x
+affine_undone : (x : ℕ) → x < 256 → affine_back (affine x) ≡ x
 unfolding xor
-affine-undone = agree (λ x. affineBack (affine x)) (λ x. x) 256 tt
+affine_undone = agree (λ x. affine_back (affine x)) (λ x. x) 256 tt
 
-affine-back-undone : (x : ℕ) → x < 256 → affine (affineBack x) ≡ x
+affine_back_undone : (x : ℕ) → x < 256 → affine (affine_back x) ≡ x
 unfolding xor
-affine-back-undone = agree (λ x. affine (affineBack x)) (λ x. x) 256 tt
+affine_back_undone = agree (λ x. affine (affine_back x)) (λ x. x) 256 tt
 
-affine-lt : (x : ℕ) → x < 256 → affine x < 256
+affine_lt : (x : ℕ) → x < 256 → affine x < 256
 unfolding xor
-affine-lt x h = ltb→lt _ _ (below (λ x. ltb (affine x) 256) 256 tt x h)
+affine_lt x h = ltb→lt _ _ (below (λ x. ltb (affine x) 256) 256 tt x h)
 
-affine-back-lt : (x : ℕ) → x < 256 → affineBack x < 256
+affine_back_lt : (x : ℕ) → x < 256 → affine_back x < 256
 unfolding xor
-affine-back-lt x h = ltb→lt _ _ (below (λ x. ltb (affineBack x) 256) 256 tt x h)
+affine_back_lt x h = ltb→lt _ _ (below (λ x. ltb (affine_back x) 256) 256 tt x h)
 
 -- ---- the substitution
 
-pub sub-lt : (x : ℕ) → x < 256 → subByte x < 256
-unfolding subByte
-sub-lt x h = affine-lt (inverse x) (inverse-lt x h)
+pub sub_lt : (x : ℕ) → x < 256 → sub_byte x < 256
+unfolding sub_byte
+sub_lt x h = affine_lt (inverse x) (inverse_lt x h)
 
-pub sub-back-lt : (x : ℕ) → x < 256 → subByteBack x < 256
-unfolding subByteBack
-sub-back-lt x h = inverse-lt (affineBack x) (affine-back-lt x h)
+pub sub_back_lt : (x : ℕ) → x < 256 → sub_byte_back x < 256
+unfolding sub_byte_back
+sub_back_lt x h = inverse_lt (affine_back x) (affine_back_lt x h)
 
-pub sub-undone : (x : ℕ) → x < 256 → subByteBack (subByte x) ≡ x
-unfolding subByte subByteBack
-sub-undone x h = ap inverse (affine-undone (inverse x) (inverse-lt x h)) ∙ inverse-twice x h
+pub sub_undone : (x : ℕ) → x < 256 → sub_byte_back (sub_byte x) ≡ x
+unfolding sub_byte sub_byte_back
+sub_undone x h = ap inverse (affine_undone (inverse x) (inverse_lt x h)) ∙ inverse_twice x h
 
-pub sub-back-undone : (x : ℕ) → x < 256 → subByte (subByteBack x) ≡ x
-unfolding subByte subByteBack
-sub-back-undone x h = ap affine (inverse-twice (affineBack x) (affine-back-lt x h)) ∙ affine-back-undone x h
+pub sub_back_undone : (x : ℕ) → x < 256 → sub_byte (sub_byte_back x) ≡ x
+unfolding sub_byte sub_byte_back
+sub_back_undone x h = ap affine (inverse_twice (affine_back x) (affine_back_lt x h)) ∙ affine_back_undone x h
 
 -- ---- the two tables: the first follows its rule where one test over its 256 entries passes
 
-pub sub-table-is : (t : List ℕ) → T (every (λ x. ltb (get_or t x 0) 256) 256) → T (every (λ x. IsInverse x (affineBack (get_or t x 0))) 256) → Table subByte t
-unfolding Table subByte
-sub-table-is t bytes inverses x h =
-    sym (affine-back-undone (get_or t x 0) (ltb→lt (get_or t x 0) 256 (below (λ x. ltb (get_or t x 0) 256) 256 bytes x h)))
-    ∙ ap affine (inverse-only x (affineBack (get_or t x 0)) h (below (λ x. IsInverse x (affineBack (get_or t x 0))) 256 inverses x h))
+pub sub_table_is : (t : List ℕ) → T (every (λ x. ltb (get_or t x 0) 256) 256) → T (every (λ x. IsInverse x (affine_back (get_or t x 0))) 256) → Table sub_byte t
+unfolding Table sub_byte
+sub_table_is t bytes inverses x h =
+    sym (affine_back_undone (get_or t x 0) (ltb→lt (get_or t x 0) 256 (below (λ x. ltb (get_or t x 0) 256) 256 bytes x h)))
+    ∙ ap affine (inverse_only x (affine_back (get_or t x 0)) h (below (λ x. IsInverse x (affine_back (get_or t x 0))) 256 inverses x h))
 
 -- two tables undo each other where one test over their 256 entries passes
 abbrev pub Undone : List ℕ → List ℕ → ℕ → Bool
 Undone t u x = eqb (get_or u (get_or t x 0) 0) x
 
-pub undo-is : (t u : List ℕ) → T (every (λ x. both (Undone t u x) (Undone u t x)) 256) → Undo t u
-undo-is t u test =
+pub undo_is : (t u : List ℕ) → T (every (λ x. both (Undone t u x) (Undone u t x)) 256) → Undo t u
+undo_is t u test =
     let passes = below (λ x. both (Undone t u x) (Undone u t x)) 256 test in
     record {
       forth = λ x h. eqb→eq _ x (both_left (Undone t u x) (Undone u t x) (passes x h));
@@ -153,8 +153,8 @@ undo-is t u test =
     }
 
 -- and then the second follows the rule back where the first follows its rule
-pub back-table-is : (t u : List ℕ) → Table subByte t → Undo t u → Table subByteBack u
+pub back_table_is : (t u : List ℕ) → Table sub_byte t → Undo t u → Table sub_byte_back u
 unfolding Table
-back-table-is t u rule undo x h =
-    let y = subByteBack x in
-    sym (ap (λ (z : ℕ). get_or u z 0) (rule y (sub-back-lt x h) ∙ sub-back-undone x h)) ∙ undo.forth y (sub-back-lt x h)
+back_table_is t u rule undo x h =
+    let y = sub_byte_back x in
+    sym (ap (λ (z : ℕ). get_or u z 0) (rule y (sub_back_lt x h) ∙ sub_back_undone x h)) ∙ undo.forth y (sub_back_lt x h)

@@ -10,9 +10,9 @@ use lib.Dec.{eqb, eqb→eq, lit<}
 use lib.Bits.{bit_xor, differ}
 use lib.Bits as bits
 use lib.ListN.{length, get_or}
-use Rattle.aes_round.specs.Bytes.{Bytes, tab, xor, xorBytes}
+use Rattle.aes_round.specs.Bytes.{Bytes, tab, xor, xor_bytes}
 use Rattle.aes_round.proofs.Laws.Every.{every, below}
-use Rattle.aes_round.proofs.Laws.Bytes.{getD-tab, is-tab, length-tab, tab-bytes, tab-ext}
+use Rattle.aes_round.proofs.Laws.Bytes.{get_or-tab, is_tab, length-tab, tab_bytes, tab_ext}
 
 -- associativity at one digit, by its eight cases
 digit : (x y z : ℕ) → x < 2 → y < 2 → z < 2 → differ (bit_xor x y) z ≡ differ x (bit_xor y z)
@@ -34,9 +34,9 @@ assoc a =
     ∙ sym (bits.xor_step n (bit_xor b c))) a
 
 -- what the code's `^` computes
-pub code-xor : (a b : ℕ) → bit_xor a b ≡ xor a b
+pub code_xor : (a b : ℕ) → bit_xor a b ≡ xor a b
 unfolding xor
-code-xor a b = refl
+code_xor a b = refl
 
 pub xor_assoc : (a b c : ℕ) → xor (xor a b) c ≡ xor a (xor b c)
 unfolding xor
@@ -70,71 +70,71 @@ pub xor_lt : (k a b : ℕ) → a < 2 ^ k → b < 2 ^ k → xor a b < 2 ^ k
 unfolding xor
 xor_lt = bits.xor_lt
 
-pub xor-shl : (a b k : ℕ) → xor a b * 2 ^ k ≡ xor (a * 2 ^ k) (b * 2 ^ k)
+pub xor_shl : (a b k : ℕ) → xor a b * 2 ^ k ≡ xor (a * 2 ^ k) (b * 2 ^ k)
 unfolding xor
-xor-shl a b k =
+xor_shl a b k =
     sym (add-zero (bit_xor a b * 2 ^ k)) ∙ sym (bits.xor_block k a b 0 0 (pow_pos k) (pow_pos k))
     ∙ ap₂ bit_xor (add-zero (a * 2 ^ k)) (add-zero (b * 2 ^ k))
 
 -- the highest of n + 1 digits, and the others
-pub xor-top : (n x : ℕ) → x ≡ xor (x / 2 ^ n * 2 ^ n) (x % 2 ^ n)
+pub xor_top : (n x : ℕ) → x ≡ xor (x / 2 ^ n * 2 ^ n) (x % 2 ^ n)
 unfolding xor
-xor-top n x = sym (split x n) ∙ sym (bits.xor_shifted (x / 2 ^ n) n (x % 2 ^ n) (mod-lt x (pow_pos n)))
+xor_top n x = sym (split x n) ∙ sym (bits.xor_shifted (x / 2 ^ n) n (x % 2 ^ n) (mod-lt x (pow_pos n)))
 
 -- the middle two of four change places
-pub xor-swap : (a b c d : ℕ) → xor (xor a b) (xor c d) ≡ xor (xor a c) (xor b d)
-xor-swap a b c d =
+pub xor_swap : (a b c d : ℕ) → xor (xor a b) (xor c d) ≡ xor (xor a c) (xor b d)
+xor_swap a b c d =
     xor_assoc _ _ _
     ∙ ap (xor a) (sym (xor_assoc _ _ _) ∙ ap (λ (x : ℕ). xor x d) (xor_comm b c) ∙ xor_assoc _ _ _)
     ∙ sym (xor_assoc _ _ _)
 
 -- what is added twice is gone
-pub xor-twice : (a k : ℕ) → xor (xor a k) k ≡ a
-xor-twice a k = xor_assoc _ _ _ ∙ ap (xor a) (xor_self k) ∙ xor_zero_r a
+pub xor_twice : (a k : ℕ) → xor (xor a k) k ≡ a
+xor_twice a k = xor_assoc _ _ _ ∙ ap (xor a) (xor_self k) ∙ xor_zero_r a
 
 -- a digit times a sum
-pub xor-digit : (d a b : ℕ) → d < 2 → d * xor a b ≡ xor (d * a) (d * b)
-xor-digit zero a b h = zero-mul _ ∙ sym (ap₂ xor (zero-mul a) (zero-mul b) ∙ xor_self 0)
-xor-digit (suc zero) a b h = one-mul _ ∙ sym (ap₂ xor (one-mul a) (one-mul b))
-xor-digit (suc (suc d)) a b h = absurd (omega arith)
+pub xor_digit : (d a b : ℕ) → d < 2 → d * xor a b ≡ xor (d * a) (d * b)
+xor_digit zero a b h = zero-mul _ ∙ sym (ap₂ xor (zero-mul a) (zero-mul b) ∙ xor_self 0)
+xor_digit (suc zero) a b h = one-mul _ ∙ sym (ap₂ xor (one-mul a) (one-mul b))
+xor_digit (suc (suc d)) a b h = absurd (omega arith)
 
 -- a sum of digits times a number
-digits-times : (m x y : ℕ) → x < 2 → y < 2 → xor x y * m ≡ xor (x * m) (y * m)
+digits_times : (m x y : ℕ) → x < 2 → y < 2 → xor x y * m ≡ xor (x * m) (y * m)
 unfolding xor
-digits-times m zero y hx hy = ap (λ (n : ℕ). bit_xor n (y * m)) (sym (zero-mul m))
-digits-times m (suc zero) zero hx hy = sym (bits.xor_zero_r (1 * m)) ∙ ap (bit_xor (1 * m)) (sym (zero-mul m))
-digits-times m (suc zero) (suc zero) hx hy = zero-mul m ∙ sym (bits.xor_self (1 * m))
-digits-times m (suc zero) (suc (suc y)) hx hy = absurd (omega arith)
-digits-times m (suc (suc x)) y hx hy = absurd (omega arith)
+digits_times m zero y hx hy = ap (λ (n : ℕ). bit_xor n (y * m)) (sym (zero-mul m))
+digits_times m (suc zero) zero hx hy = sym (bits.xor_zero_r (1 * m)) ∙ ap (bit_xor (1 * m)) (sym (zero-mul m))
+digits_times m (suc zero) (suc zero) hx hy = zero-mul m ∙ sym (bits.xor_self (1 * m))
+digits_times m (suc zero) (suc (suc y)) hx hy = absurd (omega arith)
+digits_times m (suc (suc x)) y hx hy = absurd (omega arith)
 
-pub digit-xor : (a b m : ℕ) → xor a b % 2 * m ≡ xor (a % 2 * m) (b % 2 * m)
-digit-xor a b m =
-    ap (λ (t : ℕ). t * m) (xor_mod a b 1) ∙ digits-times m (a % 2) (b % 2) (mod-lt a (lit< tt)) (mod-lt b (lit< tt))
+pub digit_xor : (a b m : ℕ) → xor a b % 2 * m ≡ xor (a % 2 * m) (b % 2 * m)
+digit_xor a b m =
+    ap (λ (t : ℕ). t * m) (xor_mod a b 1) ∙ digits_times m (a % 2) (b % 2) (mod-lt a (lit< tt)) (mod-lt b (lit< tt))
 
 -- ---- lists of n bytes
 
-pub xor-tab : (n : ℕ) (f g : ℕ → ℕ) → xorBytes n (tab n f) (tab n g) ≡ tab n (λ k. xor (f k) (g k))
-unfolding xorBytes
-xor-tab n f g = tab-ext n _ _ (λ k h. ap₂ xor (getD-tab n f k h) (getD-tab n g k h))
+pub xor_tab : (n : ℕ) (f g : ℕ → ℕ) → xor_bytes n (tab n f) (tab n g) ≡ tab n (λ k. xor (f k) (g k))
+unfolding xor_bytes
+xor_tab n f g = tab_ext n _ _ (λ k h. ap₂ xor (get_or-tab n f k h) (get_or-tab n g k h))
 
 module _ (n : ℕ) (a b : List ℕ) where
-  pub xor-is-tab : tab n (λ k. xor (get_or a k 0) (get_or b k 0)) ≡ xorBytes n a b
-  unfolding xorBytes
-  xor-is-tab = refl
+  pub xor_is_tab : tab n (λ k. xor (get_or a k 0) (get_or b k 0)) ≡ xor_bytes n a b
+  unfolding xor_bytes
+  xor_is_tab = refl
 
-  pub length-xor : length (xorBytes n a b) ≡ n
-  unfolding xorBytes
+  pub length-xor : length (xor_bytes n a b) ≡ n
+  unfolding xor_bytes
   length-xor = length-tab n _
 
-  pub getD-xor : (k : ℕ) → k < n → get_or (xorBytes n a b) k 0 ≡ xor (get_or a k 0) (get_or b k 0)
-  unfolding xorBytes
-  getD-xor k h = getD-tab n _ k h
+  pub get_or-xor : (k : ℕ) → k < n → get_or (xor_bytes n a b) k 0 ≡ xor (get_or a k 0) (get_or b k 0)
+  unfolding xor_bytes
+  get_or-xor k h = get_or-tab n _ k h
 
-  pub xor_bytes : Bytes n a → Bytes n b → Bytes n (xorBytes n a b)
-  unfolding xorBytes
-  xor_bytes A B = tab-bytes n _ (λ k h. xor_lt 8 _ _ (A.small k) (B.small k))
+  pub xor_bytes_lem : Bytes n a → Bytes n b → Bytes n (xor_bytes n a b)
+  unfolding xor_bytes
+  xor_bytes_lem A B = tab_bytes n _ (λ k h. xor_lt 8 _ _ (A.small k) (B.small k))
 
-  pub xor-bytes-twice : length a ≡ n → xorBytes n (xorBytes n a b) b ≡ a
-  unfolding xorBytes
-  xor-bytes-twice e =
-      sym (is-tab n a _ e (λ k h. sym (ap (λ (x : ℕ). xor x (get_or b k 0)) (getD-tab n _ k h) ∙ xor-twice _ _)))
+  pub xor_bytes_twice : length a ≡ n → xor_bytes n (xor_bytes n a b) b ≡ a
+  unfolding xor_bytes
+  xor_bytes_twice e =
+      sym (is_tab n a _ e (λ k h. sym (ap (λ (x : ℕ). xor x (get_or b k 0)) (get_or-tab n _ k h) ∙ xor_twice _ _)))

@@ -4,11 +4,11 @@ use mathlib.Core.Bool.{Bool, true, false, not}
 use mathlib.Core.List.{List, [], ◌∷◌, ◌++◌}
 use Prim.Native.Nat.{ℕ, ◌/◌}
 use lib.Dec.{ltb}
-use Rattle.echo.specs.Refusals.{Lowest, Refusal, ◌when◌, first_of, noSalt, unless}
-use Rattle.echo.specs.Session.{admitted, digestRefusal, limit}
-use Rattle.echo.proofs.Promises.{digest-number}
-use Rattle.echo.proofs.Theorems.{the-first-of-a-list-that-ascends-is-the-lowest}
-use Rattle.bahmorist.specs.Modes.{digestInRefusal, noMode}
+use Rattle.echo.specs.Refusals.{Lowest, Refusal, ◌when◌, first_of, no_salt, unless}
+use Rattle.echo.specs.Session.{admitted, digest_refusal, limit}
+use Rattle.echo.proofs.Promises.{digest_number}
+use Rattle.echo.proofs.Theorems.{the_first_of_a_list_that_ascends_is_the_lowest}
+use Rattle.bahmorist.specs.Modes.{digest_in_refusal, no_mode}
 
 abbrev pub four : Bool → Bool → Bool → Bool → List Refusal
 four a b c d = (1 when a) ∷ (2 when b) ∷ (4 when c) ∷ (5 when d) ∷ []
@@ -25,16 +25,16 @@ behind false false false false t = refl
 module _ (h salt message room : ℕ) where
   -- the digest's own refusals
   abbrev pub own : List Refusal
-  own = four (not (admitted h)) (noSalt salt) (ltb limit message) (ltb room (h / 8))
+  own = four (not (admitted h)) (no_salt salt) (ltb limit message) (ltb room (h / 8))
 
-  pub digest-first : digestRefusal h salt message room ≡ first_of own
-  digest-first = digest-number h salt message room
+  pub digest_first : digest_refusal h salt message room ≡ first_of own
+  digest_first = digest_number h salt message room
 
-  pub digest-in-first : (n : ℕ) → digestInRefusal n h salt message room ≡ first_of (own ++ (6 when noMode n) ∷ [])
-  unfolding digestInRefusal
-  digest-in-first n =
-      ap (λ (k : ℕ). unless k (first_of ((6 when noMode n) ∷ [])) k) digest-first
-      ∙ behind (not (admitted h)) (noSalt salt) (ltb limit message) (ltb room (h / 8)) (noMode n)
+  pub digest_in_first : (n : ℕ) → digest_in_refusal n h salt message room ≡ first_of (own ++ (6 when no_mode n) ∷ [])
+  unfolding digest_in_refusal
+  digest_in_first n =
+      ap (λ (k : ℕ). unless k (first_of ((6 when no_mode n) ∷ [])) k) digest_first
+      ∙ behind (not (admitted h)) (no_salt salt) (ltb limit message) (ltb room (h / 8)) (no_mode n)
 
-  pub digest-in-lowest : (n : ℕ) → Lowest (digestInRefusal n h salt message room) (own ++ (6 when noMode n) ∷ [])
-  digest-in-lowest n = rw (digest-in-first n) (the-first-of-a-list-that-ascends-is-the-lowest (own ++ (6 when noMode n) ∷ []) refl)
+  pub digest_in_lowest : (n : ℕ) → Lowest (digest_in_refusal n h salt message room) (own ++ (6 when no_mode n) ∷ [])
+  digest_in_lowest n = rw (digest_in_first n) (the_first_of_a_list_that_ascends_is_the_lowest (own ++ (6 when no_mode n) ∷ []) refl)

@@ -5,9 +5,9 @@ use mathlib.Core.List.{List}
 use Prim.Native.Nat.{ℕ, zero, suc, ◌*◌, ◌/◌}
 use native.Mathlib.Omega.{arith}
 use lib.ListN.{length}
-use Rattle.echo.specs.Session.{blank, digestRefusal}
-use Rattle.echo.proofs.Theorems.{whole-bytes-are-eight-bits-each}
-use Rattle.bahmorist.specs.Modes.{digestBitsInLeaves, digestBitsInRefusal, digestInLeaves, digestInRefusal, mode_of, noMode}
+use Rattle.echo.specs.Session.{blank, digest_refusal}
+use Rattle.echo.proofs.Theorems.{whole_bytes_are_eight_bits_each}
+use Rattle.bahmorist.specs.Modes.{digest_bits_in_leaves, digest_bits_in_refusal, digest_in_leaves, digest_in_refusal, mode_of, no_mode}
 use Rattle.bahmorist.proofs.Laws.Modes as modes
 
 module _ (n h : ℕ) (salt message room : List ℕ) where
@@ -16,45 +16,45 @@ module _ (n h : ℕ) (salt message room : List ℕ) where
 
   abbrev Agree : Type 0
   Agree =
-      (digestBitsInRefusal n h (length salt) message count (length room) ≡ digestInRefusal n h (length salt) (length message) (length room))
-      × (digestBitsInLeaves n h salt message count room ≡ digestInLeaves n h salt message room)
+      (digest_bits_in_refusal n h (length salt) message count (length room) ≡ digest_in_refusal n h (length salt) (length message) (length room))
+      × (digest_bits_in_leaves n h salt message count room ≡ digest_in_leaves n h salt message room)
 
   -- a mode's number: both are the digest of that mode
-  in-a-mode : noMode n ≡ false → Agree
-  in-a-mode one =
-      let W = whole-bytes-are-eight-bits-each (mode_of n) h salt message room blank in (
-        sym (modes.bits-passed-on n h salt message count room false (sym one) refl _ refl)
+  in_a_mode : no_mode n ≡ false → Agree
+  in_a_mode one =
+      let W = whole_bytes_are_eight_bits_each (mode_of n) h salt message room blank in (
+        sym (modes.bits_passed_on n h salt message count room false (sym one) refl _ refl)
             ∙ sym W.0
-            ∙ modes.digest-passed-on n h salt message room false (sym one) refl _ refl,
-        sym (modes.bits-left-on n h salt message count room false (sym one) refl (mode_of n) refl _ refl)
+            ∙ modes.digest_passed_on n h salt message room false (sym one) refl _ refl,
+        sym (modes.bits_left_on n h salt message count room false (sym one) refl (mode_of n) refl _ refl)
             ∙ sym W.1
-            ∙ modes.digest-left-on n h salt message room false (sym one) refl (mode_of n) refl _ refl,
+            ∙ modes.digest_left_on n h salt message room false (sym one) refl (mode_of n) refl _ refl,
       )
 
   -- no mode's: both refuse by what the digest refuses by, or by 6, and leave the room
-  in-none : noMode n ≡ true → Agree
-  in-none none = (
-    by (digestRefusal h (length salt) (length message) (length room)) refl,
-    sym (modes.bits-no-mode-leaves n h salt message count room true (sym none) refl)
-        ∙ modes.no-mode-leaves n h salt message room true (sym none) refl _ refl,
+  in_none : no_mode n ≡ true → Agree
+  in_none none = (
+    by (digest_refusal h (length salt) (length message) (length room)) refl,
+    sym (modes.bits_no_mode_leaves n h salt message count room true (sym none) refl)
+        ∙ modes.no_mode_leaves n h salt message room true (sym none) refl _ refl,
   )
     where
       bytes : length message ≡ count / 8
       bytes = omega arith
 
-      by : (r : ℕ) → r ≡ digestRefusal h (length salt) (length message) (length room)
-          → digestBitsInRefusal n h (length salt) message count (length room) ≡ digestInRefusal n h (length salt) (length message) (length room)
+      by : (r : ℕ) → r ≡ digest_refusal h (length salt) (length message) (length room)
+          → digest_bits_in_refusal n h (length salt) message count (length room) ≡ digest_in_refusal n h (length salt) (length message) (length room)
       by zero e =
-          sym (modes.bits-6 n h salt message count room true (sym none) refl 0 (e ∙ ap (λ (k : ℕ). digestRefusal h (length salt) k (length room)) bytes) refl)
-          ∙ modes.digest-6 n h salt message room true (sym none) refl 0 e refl
+          sym (modes.bits_6 n h salt message count room true (sym none) refl 0 (e ∙ ap (λ (k : ℕ). digest_refusal h (length salt) k (length room)) bytes) refl)
+          ∙ modes.digest_6 n h salt message room true (sym none) refl 0 e refl
       by (suc k) e =
-          sym (modes.bits-less n h salt message count room true (sym none) refl (suc k)
-          (e ∙ ap (λ (k : ℕ). digestRefusal h (length salt) k (length room)) bytes) (λ z. omega arith))
-          ∙ modes.digest-less n h salt message room true (sym none) refl (suc k) e (λ z. omega arith)
+          sym (modes.bits_less n h salt message count room true (sym none) refl (suc k)
+          (e ∙ ap (λ (k : ℕ). digest_refusal h (length salt) k (length room)) bytes) (λ z. omega arith))
+          ∙ modes.digest_less n h salt message room true (sym none) refl (suc k) e (λ z. omega arith)
 
   pub agrees : Agree
-  agrees = by (noMode n) refl
+  agrees = by (no_mode n) refl
     where
-      by : (t : Bool) → noMode n ≡ t → Agree
-      by true e = in-none e
-      by false e = in-a-mode e
+      by : (t : Bool) → no_mode n ≡ t → Agree
+      by true e = in_none e
+      by false e = in_a_mode e

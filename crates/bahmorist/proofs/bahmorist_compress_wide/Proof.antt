@@ -1,7 +1,7 @@
 -- `bahmorist_compress_wide` meets its contract: a number that is no mode's is refused behind the salt, and any other names the mode.
 -- Assumes nothing.
 use borrow.Author.Rules.{rules}
-use Rattle.bahmorist.proofs.Laws.Modes.{wide-left-on, wide-no-mode-2, wide-no-mode-6, wide-no-mode-keeps, wide-passed-on}
+use Rattle.bahmorist.proofs.Laws.Modes.{wide_left_on, wide_no_mode_2, wide_no_mode_6, wide_no_mode_keeps, wide_passed_on}
 use Rattle.bahmorist.proofs.bahmorist_compress_wide.Statement.{statement}
 use Rattle.bahmorist.proofs.bahmorist_compress_wide.Tie as tie
 
@@ -9,10 +9,10 @@ no-mode-requires : tie.Need-no-mode-requires
 no-mode-requires c κs = search rules
 
 returns : tie.Need-returns
-returns c = (search wide-no-mode-2, search wide-no-mode-keeps)
+returns c = (search wide_no_mode_2, search wide_no_mode_keeps)
 
 returns-2 : tie.Need-returns-2
-returns-2 c = (search wide-no-mode-6, search wide-no-mode-keeps)
+returns-2 c = (search wide_no_mode_6, search wide_no_mode_keeps)
 
 mode-of-requires : tie.Need-mode-of-requires
 mode-of-requires c κs = search rules
@@ -24,7 +24,7 @@ same_length : tie.Need-same-length
 same_length c = search rules
 
 returns-3 : tie.Need-returns-3
-returns-3 c = (search wide-passed-on, search wide-left-on)
+returns-3 c = (search wide_passed_on, search wide_left_on)
 
 pub bahmorist-compress-wide-spec : {M : Type 1} → statement M
 bahmorist-compress-wide-spec =

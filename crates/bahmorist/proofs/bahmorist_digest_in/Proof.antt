@@ -1,6 +1,6 @@
 -- `bahmorist_digest_in` meets its contract: a number that is no mode's is refused behind all else, and any other names the mode of a digest. Assumes nothing.
 use borrow.Author.Rules.{rules}
-use Rattle.bahmorist.proofs.Laws.Modes.{digest-6, digest-left-on, digest-less, digest-passed-on, no-mode-leaves}
+use Rattle.bahmorist.proofs.Laws.Modes.{digest_6, digest_left_on, digest_less, digest_passed_on, no_mode_leaves}
 use Rattle.bahmorist.proofs.bahmorist_digest_in.Statement.{statement}
 use Rattle.bahmorist.proofs.bahmorist_digest_in.Tie as tie
 
@@ -11,10 +11,10 @@ digest-refusal-requires : tie.Need-digest-refusal-requires
 digest-refusal-requires c κs = search rules
 
 returns : tie.Need-returns
-returns c = (search digest-6, search no-mode-leaves)
+returns c = (search digest_6, search no_mode_leaves)
 
 returns-2 : tie.Need-returns-2
-returns-2 c = (search digest-less, search no-mode-leaves)
+returns-2 c = (search digest_less, search no_mode_leaves)
 
 mode-of-requires : tie.Need-mode-of-requires
 mode-of-requires c κs = search rules
@@ -26,7 +26,7 @@ same_length : tie.Need-same-length
 same_length c = search rules
 
 returns-3 : tie.Need-returns-3
-returns-3 c = (search digest-passed-on, search digest-left-on)
+returns-3 c = (search digest_passed_on, search digest_left_on)
 
 pub bahmorist-digest-in-spec : {M : Type 1} → statement M
 bahmorist-digest-in-spec =

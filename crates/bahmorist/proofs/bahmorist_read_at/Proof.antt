@@ -1,7 +1,7 @@
 -- `bahmorist_read_at` meets its contract, a case for each case of a reading. Assumes nothing.
 use borrow.Author.Rules.{rules}
-use Rattle.bahmorist.proofs.Laws.Tables.{both, end-kind, end-next, end-number, found-kind, found-next, found_number}
-use Rattle.bahmorist.proofs.Laws.Tables.{refused-kind, refused-next, refused-number}
+use Rattle.bahmorist.proofs.Laws.Tables.{both, end_kind, end_next, end_number, found_kind, found_next, found_number}
+use Rattle.bahmorist.proofs.Laws.Tables.{refused_kind, refused_next, refused_number}
 use Rattle.bahmorist.proofs.bahmorist_read_at.Statement.{statement}
 use Rattle.bahmorist.proofs.bahmorist_read_at.Tie as tie
 
@@ -21,13 +21,13 @@ enum-known-number : tie.Need-enum-known-number
 enum-known-number c = search rules
 
 returns : tie.Need-returns
-returns c = (search found_number, both (search found-kind) (search found-next))
+returns c = (search found_number, both (search found_kind) (search found_next))
 
 returns-2 : tie.Need-returns-2
-returns-2 c = (search end-number, both (search end-kind) (search end-next))
+returns-2 c = (search end_number, both (search end_kind) (search end_next))
 
 returns-3 : tie.Need-returns-3
-returns-3 c = (search refused-number, both (search refused-kind) (search refused-next))
+returns-3 c = (search refused_number, both (search refused_kind) (search refused_next))
 
 pub bahmorist-read-at-spec : {M : Type 1} → statement M
 bahmorist-read-at-spec =

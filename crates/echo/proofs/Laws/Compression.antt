@@ -2,64 +2,64 @@
 use Rattle.std.proofs.Common.{◌≡◌, ℕ, zero, suc, ◌+◌, ◌-◌, ◌*◌, ◌/◌, ◌^◌, ◌<◌, ◌≤◌, List, ◌++◌, length, get_or, take, drop, sym, refl, ap, ◌∙◌, ap₂, ⊎_elim, le_refl, not-suc-le-zero, add_comm, mul-le-mul_left, mul-zero, zero-add, mul-suc, add-one, arith, length-append, get_or-drop, get_or-take}
 use native.Mathlib.Nat.{mul-div_cancel_left}
 use lib.Bits.{bit_xor}
-use Rattle.aes_round.specs.Bytes.{tab, xor, xorBytes}
-use Rattle.aes_round.proofs.Promises.{Filled, code-xor, fill-all, getD-tab, getD-xor, length-tab, length-xor, lt-or-le, same-list, tab-ext, xor_assoc}
-use Rattle.aes_round.proofs.Promises.{xor-is-tab, xor_zero_l, xor_zero_r}
-use Rattle.echo.specs.Compression.{bigFinal, compress, fold, xorSum}
+use Rattle.aes_round.specs.Bytes.{tab, xor, xor_bytes}
+use Rattle.aes_round.proofs.Promises.{Filled, code_xor, fill_all, get_or-tab, get_or-xor, length-tab, length-xor, lt_or_le, same_list, tab_ext, xor_assoc}
+use Rattle.aes_round.proofs.Promises.{xor_is_tab, xor_zero_l, xor_zero_r}
+use Rattle.echo.specs.Compression.{big_final, compress, fold, xor_sum}
 use Rattle.echo.specs.Placed.{Placed}
 use Rattle.echo.specs.Square.{rounds}
-use Rattle.echo.proofs.Laws.Joined.{first_part, second-part}
+use Rattle.echo.proofs.Laws.Joined.{first_part, second_part}
 
 -- ---- the loop that xors a list into another
 
 -- the element that comes next is still the old one
-pub xor-old : (n k x : ℕ) (f : ℕ → ℕ) (l r : List ℕ) → Filled n f l k r → bit_xor (get_or r k 0) x ≡ xor (get_or l k 0) x
-xor-old n k x f l r F = code-xor (get_or r k 0) x ∙ ap (λ (y : ℕ). xor y x) (F.rest k (le_refl k))
+pub xor_old : (n k x : ℕ) (f : ℕ → ℕ) (l r : List ℕ) → Filled n f l k r → bit_xor (get_or r k 0) x ≡ xor (get_or l k 0) x
+xor_old n k x f l r F = code_xor (get_or r k 0) x ∙ ap (λ (y : ℕ). xor y x) (F.rest k (le_refl k))
 
-pub xor_all : (n k : ℕ) (l m r : List ℕ) → Filled n (λ j. xor (get_or l j 0) (get_or m j 0)) l k r → n ≡ length l → n ≤ k → r ≡ xorBytes (length l) l m
-xor_all n k l m r F e h = fill-all n _ l k r F h ∙ xor-is-tab n l m ∙ ap (λ (i : ℕ). xorBytes i l m) e
+pub xor_all : (n k : ℕ) (l m r : List ℕ) → Filled n (λ j. xor (get_or l j 0) (get_or m j 0)) l k r → n ≡ length l → n ≤ k → r ≡ xor_bytes (length l) l m
+xor_all n k l m r F e h = fill_all n _ l k r F h ∙ xor_is_tab n l m ∙ ap (λ (i : ℕ). xor_bytes i l m) e
 
 -- ---- the loop over parts
 
 -- part j of the n that src has
 module _ (c j n : ℕ) (src : List ℕ) (l : length src ≡ c * n) (h : j < n) where
-  pub part-within : c * j + c ≤ length src
-  part-within = omega (arith, mul-suc c j, mul-le-mul_left c h)
+  pub part_within : c * j + c ≤ length src
+  part_within = omega (arith, mul-suc c j, mul-le-mul_left c h)
 
-  pub part-fits : length src < 2 ^ 64 → c * j < 2 ^ 64
-  part-fits f = omega (arith, part-within)
+  pub part_fits : length src < 2 ^ 64 → c * j < 2 ^ 64
+  part_fits f = omega (arith, part_within)
 
-  pub part-end-fits : length src < 2 ^ 64 → c * j + c < 2 ^ 64
-  part-end-fits f = omega (arith, part-within)
+  pub part_end_fits : length src < 2 ^ 64 → c * j + c < 2 ^ 64
+  part_end_fits f = omega (arith, part_within)
 
 module _ (c : ℕ) (v₀ src : List ℕ) where
   -- v with the first j parts of src xored in
   pub parts_in : ℕ → List ℕ
-  parts_in j = xorBytes c v₀ (tab c (λ k. xorSum j (λ i. get_or src (c * i + k) 0)))
+  parts_in j = xor_bytes c v₀ (tab c (λ k. xor_sum j (λ i. get_or src (c * i + k) 0)))
 
-  parts-long : (j : ℕ) → length (parts_in j) ≡ c
+  parts_long : (j : ℕ) → length (parts_in j) ≡ c
   unfolding parts_in
-  parts-long j = length-xor c v₀ _
+  parts_long j = length-xor c v₀ _
 
-  summed : (n k : ℕ) → k < c → get_or (parts_in n) k 0 ≡ xor (get_or v₀ k 0) (xorSum n (λ i. get_or src (c * i + k) 0))
+  summed : (n k : ℕ) → k < c → get_or (parts_in n) k 0 ≡ xor (get_or v₀ k 0) (xor_sum n (λ i. get_or src (c * i + k) 0))
   unfolding parts_in
-  summed n k h = getD-xor c v₀ _ k h ∙ ap (xor (get_or v₀ k 0)) (getD-tab c _ k h)
+  summed n k h = get_or-xor c v₀ _ k h ∙ ap (xor (get_or v₀ k 0)) (get_or-tab c _ k h)
 
-  pub no-parts : length v₀ ≡ c → v₀ ≡ parts_in 0
-  no-parts l = same-list c v₀ _ l (parts-long 0) (λ k h. sym (summed 0 k h ∙ xor_zero_r _))
+  pub no_parts : length v₀ ≡ c → v₀ ≡ parts_in 0
+  no_parts l = same_list c v₀ _ l (parts_long 0) (λ k h. sym (summed 0 k h ∙ xor_zero_r _))
 
   module _ (j : ℕ) (v : List ℕ) (e : v ≡ parts_in j) where
     -- the part j is what stands in src from c * j to its end
-    pub next-part-in : length v ≡ c → (r : List ℕ) → r ≡ xorBytes (length v) v (take (c * j + c - c * j) (drop (c * j) src)) → r ≡ parts_in (j + 1)
-    next-part-in l r x =
+    pub next_part_in : length v ≡ c → (r : List ℕ) → r ≡ xor_bytes (length v) v (take (c * j + c - c * j) (drop (c * j) src)) → r ≡ parts_in (j + 1)
+    next_part_in l r x =
         x
-        ∙ ap (λ (m : ℕ). xorBytes m v part) l
-        ∙ same-list c _ _ (length-xor c v part) (parts-long (j + 1))
+        ∙ ap (λ (m : ℕ). xor_bytes m v part) l
+        ∙ same_list c _ _ (length-xor c v part) (parts_long (j + 1))
         (λ k h.
-        getD-xor c v part k h
+        get_or-xor c v part k h
         ∙ ap₂ xor (ap (λ (y : List ℕ). get_or y k 0) e ∙ summed j k h) (at k h)
         ∙ xor_assoc (get_or v₀ k 0) _ _
-        ∙ ap (λ (n : ℕ). xor (get_or v₀ k 0) (xorSum n (λ i. get_or src (c * i + k) 0))) (sym (add-one j))
+        ∙ ap (λ (n : ℕ). xor (get_or v₀ k 0) (xor_sum n (λ i. get_or src (c * i + k) 0))) (sym (add-one j))
         ∙ sym (summed (j + 1) k h))
       where
         part : List ℕ
@@ -68,37 +68,37 @@ module _ (c : ℕ) (v₀ src : List ℕ) where
         at : (k : ℕ) → k < c → get_or part k 0 ≡ get_or src (c * j + k) 0
         at k h = get_or-take (c * j + c - c * j) (drop (c * j) src) k 0 (omega arith) ∙ get_or-drop (c * j) src k 0
 
-    pub all-parts : (n : ℕ) → 0 < c → length src ≡ c * n → j ≤ n → n ≤ j → v ≡ xorBytes c v₀ (fold c src)
+    pub all_parts : (n : ℕ) → 0 < c → length src ≡ c * n → j ≤ n → n ≤ j → v ≡ xor_bytes c v₀ (fold c src)
     unfolding parts_in fold
-    all-parts n h l most least =
+    all_parts n h l most least =
         let all : j ≡ length src / c = omega (arith, ap (λ (x : ℕ). x / c) l ∙ mul-div_cancel_left n h) in
-        e ∙ ap (xorBytes c v₀) (tab-ext c _ _ (λ k hk. ap (λ (m : ℕ). xorSum m (λ i. get_or src (c * i + k) 0)) all))
+        e ∙ ap (xor_bytes c v₀) (tab_ext c _ _ (λ k hk. ap (λ (m : ℕ). xor_sum m (λ i. get_or src (c * i + k) 0)) all))
 
 -- ---- the fold of a loaded square
 
-pub sum-ext : (n : ℕ) (f g : ℕ → ℕ) → ((i : ℕ) → f i ≡ g i) → xorSum n f ≡ xorSum n g
-sum-ext zero f g e = refl
-sum-ext (suc n) f g e = ap₂ xor (sum-ext n f g e) (e n)
+pub sum_ext : (n : ℕ) (f g : ℕ → ℕ) → ((i : ℕ) → f i ≡ g i) → xor_sum n f ≡ xor_sum n g
+sum_ext zero f g e = refl
+sum_ext (suc n) f g e = ap₂ xor (sum_ext n f g e) (e n)
 
 -- a sum by its first term
-xorSum-first : (n : ℕ) (f : ℕ → ℕ) → xorSum (suc n) f ≡ xor (f 0) (xorSum n (λ i. f (suc i)))
-xorSum-first zero f = xor_zero_l (f 0) ∙ sym (xor_zero_r (f 0))
-xorSum-first (suc n) f = ap (λ (x : ℕ). xor x (f (suc n))) (xorSum-first n f) ∙ xor_assoc (f 0) _ _
+xor_sum_first : (n : ℕ) (f : ℕ → ℕ) → xor_sum (suc n) f ≡ xor (f 0) (xor_sum n (λ i. f (suc i)))
+xor_sum_first zero f = xor_zero_l (f 0) ∙ sym (xor_zero_r (f 0))
+xor_sum_first (suc n) f = ap (λ (x : ℕ). xor x (f (suc n))) (xor_sum_first n f) ∙ xor_assoc (f 0) _ _
 
 -- the chaining variable is the first part of the square that it is loaded into
-pub fold-loaded : (c : ℕ) (v m : List ℕ) (n : ℕ) → 0 < c → length v ≡ c → length m ≡ c * n → fold c (v ++ m) ≡ xorBytes c v (fold c m)
+pub fold_loaded : (c : ℕ) (v m : List ℕ) (n : ℕ) → 0 < c → length v ≡ c → length m ≡ c * n → fold c (v ++ m) ≡ xor_bytes c v (fold c m)
 unfolding fold
-fold-loaded c v m n h lv lm =
-    same-list c _ _ (length-tab c _) (length-xor c v _)
+fold_loaded c v m n h lv lm =
+    same_list c _ _ (length-tab c _) (length-xor c v _)
     (λ k hk.
-    getD-tab c _ k hk
-    ∙ ap (λ (i : ℕ). xorSum i (λ j. get_or (v ++ m) (c * j + k) 0)) parts
-    ∙ xorSum-first n (λ j. get_or (v ++ m) (c * j + k) 0)
+    get_or-tab c _ k hk
+    ∙ ap (λ (i : ℕ). xor_sum i (λ j. get_or (v ++ m) (c * j + k) 0)) parts
+    ∙ xor_sum_first n (λ j. get_or (v ++ m) (c * j + k) 0)
     ∙ ap₂ xor
     (ap (λ (i : ℕ). get_or (v ++ m) i 0) (ap (λ (x : ℕ). x + k) (mul-zero c) ∙ zero-add k) ∙ first_part c v m lv k hk)
-    (sum-ext n _ _ (λ j. ap (λ (i : ℕ). get_or (v ++ m) i 0) (behind j k) ∙ second-part c v m lv (c * j + k))
-    ∙ ap (λ (i : ℕ). xorSum i (λ j. get_or m (c * j + k) 0)) (sym (ap (λ (x : ℕ). x / c) lm ∙ mul-div_cancel_left n h)))
-    ∙ sym (getD-xor c v _ k hk ∙ ap (xor (get_or v k 0)) (getD-tab c _ k hk)))
+    (sum_ext n _ _ (λ j. ap (λ (i : ℕ). get_or (v ++ m) i 0) (behind j k) ∙ second_part c v m lv (c * j + k))
+    ∙ ap (λ (i : ℕ). xor_sum i (λ j. get_or m (c * j + k) 0)) (sym (ap (λ (x : ℕ). x / c) lm ∙ mul-div_cancel_left n h)))
+    ∙ sym (get_or-xor c v _ k hk ∙ ap (xor (get_or v k 0)) (get_or-tab c _ k hk)))
   where
     parts : length (v ++ m) / c ≡ suc n
     parts =
@@ -111,36 +111,36 @@ fold-loaded c v m n h lv lm =
 -- ---- what the code does
 
 -- a square of 256 bytes in parts of c bytes: how many the block has
-pub some-parts : (c p : ℕ) → 256 ≡ c * p → 0 < p
-some-parts c zero e = absurd (no (e ∙ mul-zero c))
+pub some_parts : (c p : ℕ) → 256 ≡ c * p → 0 < p
+some_parts c zero e = absurd (no (e ∙ mul-zero c))
   where
     no : ◌≡◌ {A = ℕ} 256 0 → ⊥
     no e = omega arith
-some-parts c (suc p) e = omega arith
+some_parts c (suc p) e = omega arith
 
-pub block-parts : (c b p : ℕ) → c + b ≡ 256 → 256 ≡ c * p → b ≡ c * (p - 1)
-block-parts c b zero h e = absurd (not-suc-le-zero (some-parts c zero e))
-block-parts c b (suc p) h e = omega (arith, mul-suc c p, ap (λ (n : ℕ). c * n) (less p))
+pub block_parts : (c b p : ℕ) → c + b ≡ 256 → 256 ≡ c * p → b ≡ c * (p - 1)
+block_parts c b zero h e = absurd (not-suc-le-zero (some_parts c zero e))
+block_parts c b (suc p) h e = omega (arith, mul-suc c p, ap (λ (n : ℕ). c * n) (less p))
   where
     less : (p : ℕ) → suc p - 1 ≡ p
     less p = omega arith
 
 -- a square is as many parts as its length divided by theirs
-pub square-parts : (c : ℕ) (v w : List ℕ) → length v ≡ c → length w ≡ 256 → 256 ≡ c * (256 / c) → length w ≡ length v * (256 / c)
-square-parts c v w lv lw e = lw ∙ e ∙ ap (λ (n : ℕ). n * (256 / c)) (sym lv)
+pub square_parts : (c : ℕ) (v w : List ℕ) → length v ≡ c → length w ≡ 256 → 256 ≡ c * (256 / c) → length w ≡ length v * (256 / c)
+square_parts c v w lv lw e = lw ∙ e ∙ ap (λ (n : ℕ). n * (256 / c)) (sym lv)
 
 -- the chaining variable and the block, copied into a square one behind the other
 loaded : (z v m s t : List ℕ) → length z ≡ 256 → length v + length m ≡ 256 → Placed z 0 v (length v) s → Placed s (length v) m (length m) t → t ≡ v ++ m
 loaded z v m s t lz l P Q =
-    same-list 256 t (v ++ m) (Q.long ∙ P.long ∙ lz) (length-append v m ∙ l)
+    same_list 256 t (v ++ m) (Q.long ∙ P.long ∙ lz) (length-append v m ∙ l)
     (λ k lt.
     ⊎_elim (λ (h : k < length v). Q.before k h ∙ ap (λ (i : ℕ). get_or s i 0) (sym (zero-add k)) ∙ P.inside k h ∙ sym (first_part (length v) v m refl k h))
     (λ (g : length v ≤ k).
     ap (λ (i : ℕ). get_or t i 0) (sym (back k g))
     ∙ Q.inside (k - length v) (left k g lt)
-    ∙ sym (second-part (length v) v m refl (k - length v))
+    ∙ sym (second_part (length v) v m refl (k - length v))
     ∙ ap (λ (i : ℕ). get_or (v ++ m) i 0) (back k g))
-    (lt-or-le k (length v)))
+    (lt_or_le k (length v)))
   where
     back : (k : ℕ) → length v ≤ k → length v + (k - length v) ≡ k
     back k g = omega arith
@@ -149,12 +149,12 @@ loaded z v m s t lz l P Q =
     left k g lt = omega arith
 
 -- a square loaded and run, and the two folds
-pub compressed : (n : ℕ) (key : ℕ → List ℕ) (salt v m z s q w r t : List ℕ) → t ≡ xorBytes (length r) r (fold (length r) w)
-    → r ≡ xorBytes (length v) v (fold (length v) m) → length r ≡ length v → w ≡ rounds n key salt q
+pub compressed : (n : ℕ) (key : ℕ → List ℕ) (salt v m z s q w r t : List ℕ) → t ≡ xor_bytes (length r) r (fold (length r) w)
+    → r ≡ xor_bytes (length v) v (fold (length v) m) → length r ≡ length v → w ≡ rounds n key salt q
     → Placed s (length v) m (length m) q → Placed z 0 v (length v) s → length z ≡ 256 → length v + length m ≡ 256
     → t ≡ compress (length v) n key salt v m
-unfolding compress bigFinal
+unfolding compress big_final
 compressed n key salt v m z s q w r t fin p lr run second first lz l =
     fin
-    ∙ ap (λ (k : ℕ). xorBytes k r (fold k w)) lr
-    ∙ ap₂ (λ (x y : List ℕ). xorBytes (length v) x (fold (length v) y)) p (run ∙ ap (rounds n key salt) (loaded z v m s q lz l first second))
+    ∙ ap (λ (k : ℕ). xor_bytes k r (fold k w)) lr
+    ∙ ap₂ (λ (x y : List ℕ). xor_bytes (length v) x (fold (length v) y)) p (run ∙ ap (rounds n key salt) (loaded z v m s q lz l first second))

@@ -30,10 +30,10 @@ module _ (low high words : ℕ) where
 
 -- as the code has it
 module _ (low high words sum : ℕ) (l : low < 2 ^ 64) (w : words < 2 ^ 64) (e : sum ≡ (low + words) % 2 ^ 64) where
-  pub counted-over : (next : ℕ) → next ≡ (high + 1) % 2 ^ 64 → sum < words → halves sum next ≡ (halves low high + words) % 2 ^ 128
+  pub counted_over : (next : ℕ) → next ≡ (high + 1) % 2 ^ 64 → sum < words → halves sum next ≡ (halves low high + words) % 2 ^ 128
   unfolding on
-  counted-over next f over = ap₂ halves e f ∙ counted low high words 1 (omega arith)
+  counted_over next f over = ap₂ halves e f ∙ counted low high words 1 (omega arith)
 
-  pub counted-within : high < 2 ^ 64 → words ≤ sum → halves sum high ≡ (halves low high + words) % 2 ^ 128
+  pub counted_within : high < 2 ^ 64 → words ≤ sum → halves sum high ≡ (halves low high + words) % 2 ^ 128
   unfolding on
-  counted-within h within = ap₂ halves e (sym (ap (λ (x : ℕ). x % 2 ^ 64) (add-zero high) ∙ mod-eq_of_lt h)) ∙ counted low high words 0 (omega arith)
+  counted_within h within = ap₂ halves e (sym (ap (λ (x : ℕ). x % 2 ^ 64) (add-zero high) ∙ mod-eq_of_lt h)) ∙ counted low high words 0 (omega arith)

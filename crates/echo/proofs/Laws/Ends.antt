@@ -2,29 +2,29 @@
 use Rattle.std.proofs.Common.{◌≡◌, ℕ, zero, suc, ◌+◌, ◌-◌, ◌*◌, ◌/◌, ◌%◌, ◌^◌, ◌<◌, ◌≤◌, min, Bool, true, false, eqb, ltb, List, ◌∷◌, ◌++◌, length, get_or, take, drop, set, replicate, sym, refl, ap, ◌∙◌, subst, ap₂, ⊎_elim, append_assoc, add-zero, mod-lt, mod-eq_of_lt, mul-zero, mul-one, mul-add, arith, length-append, length-set, length-take-le, take_all, get_or-set_other, get_or-take, get_or-set_same, take_at, drop_at, le-ltb, lt-ltb, eq-eqb, ne_eqb}
 use native.Mathlib.Nat.{div-add-mod, div-eq_of_lt, min-eq_left, mul-add-div, mul-add-mod_self_left}
 use lib.ListN.{get_or-replicate, length-replicate, replicate-append-replicate}
-use Rattle.aes_round.proofs.Promises.{length-xor, lt-or-le, same-list}
+use Rattle.aes_round.proofs.Promises.{length-xor, lt_or_le, same_list}
 use Rattle.echo.specs.declared.mode.Mode.{Mode}
-use Rattle.echo.specs.Bits.{bits_of, byteBits, packed}
-use Rattle.echo.specs.Compression.{bigFinal, compress}
-use Rattle.echo.specs.Digest.{block, blockCount, counterAt, iterate}
-use Rattle.echo.specs.Families.{blockSize, chainingSize, either, roundCount}
+use Rattle.echo.specs.Bits.{bits_of, byte_bits, packed}
+use Rattle.echo.specs.Compression.{big_final, compress}
+use Rattle.echo.specs.Digest.{block, block_count, counter_at, iterate}
+use Rattle.echo.specs.Families.{block_size, chaining_size, either, round_count}
 use Rattle.echo.specs.Padding.{padding}
 use Rattle.echo.specs.Placed.{Placed}
-use Rattle.echo.specs.Session.{allZero, bitLimit, compressed, finalChaining, made}
-use Rattle.echo.specs.Square.{keysFrom}
-use Rattle.echo.proofs.Laws.Bits.{Part, take_part, zero-within}
-use Rattle.echo.proofs.Laws.Counting.{bits-mod, div-on, mod-on}
-use Rattle.echo.proofs.Laws.Families.{block-pos, sizes}
-use Rattle.echo.proofs.Laws.Joined.{first_part, second-part}
-use Rattle.echo.proofs.Laws.Padded.{ending, length-lengths, lengthsOf, packed-behind}
+use Rattle.echo.specs.Session.{all_zero, bit_limit, compressed, final_chaining, made}
+use Rattle.echo.specs.Square.{keys_from}
+use Rattle.echo.proofs.Laws.Bits.{Part, take_part, zero_within}
+use Rattle.echo.proofs.Laws.Counting.{bits_mod, div_on, mod_on}
+use Rattle.echo.proofs.Laws.Families.{block_pos, sizes}
+use Rattle.echo.proofs.Laws.Joined.{first_part, second_part}
+use Rattle.echo.proofs.Laws.Padded.{ending, length_lengths, lengths_of, packed_behind}
 use Rattle.echo.proofs.Laws.Placed.{cleared}
-use Rattle.echo.proofs.Laws.Zeros.{both, zero-from}
+use Rattle.echo.proofs.Laws.Zeros.{both, zero_from}
 
 -- a block of b bytes whose last eighteen are the lengths e
 closed : (b : ℕ) (w e t : List ℕ) → length w ≡ 224 → 128 ≤ b → b ≤ 224 → length e ≡ 18 → Placed w (b - 18) e 18 t → take b t ≡ take (b - 18) w ++ e
 closed b w e t lw least most le P =
-    same-list b (take b t) (take (b - 18) w ++ e) (length-take-le b t (omega (arith, P.long))) (length-append (take (b - 18) w) e ∙ omega (arith, short, le))
-    (λ k h. get_or-take b t k 0 h ∙ ⊎_elim (front k) (back k h) (lt-or-le k (b - 18)))
+    same_list b (take b t) (take (b - 18) w ++ e) (length-take-le b t (omega (arith, P.long))) (length-append (take (b - 18) w) e ∙ omega (arith, short, le))
+    (λ k h. get_or-take b t k 0 h ∙ ⊎_elim (front k) (back k h) (lt_or_le k (b - 18)))
   where
     short : length (take (b - 18) w) ≡ b - 18
     short = length-take-le (b - 18) w (omega arith)
@@ -42,14 +42,14 @@ closed b w e t lw least most le P =
     back k h g =
         ap (λ (i : ℕ). get_or t i 0) (sym (on k g))
         ∙ P.inside (k - (b - 18)) (left k h g)
-        ∙ sym (ap (λ (i : ℕ). get_or (take (b - 18) w ++ e) i 0) (sym (on k g)) ∙ second-part (b - 18) (take (b - 18) w) e short (k - (b - 18)))
+        ∙ sym (ap (λ (i : ℕ). get_or (take (b - 18) w ++ e) i 0) (sym (on k g)) ∙ second_part (b - 18) (take (b - 18) w) e short (k - (b - 18)))
 
 -- the first m bytes of a waiting block in which the padding has begun
-begun : (w : List ℕ) (u m y : ℕ) → allZero (drop (suc u) w) ≡ true → u < m → m ≤ length w → take m (set w u y) ≡ take u w ++ (y ∷ replicate (m - u - 1) 0)
+begun : (w : List ℕ) (u m y : ℕ) → all_zero (drop (suc u) w) ≡ true → u < m → m ≤ length w → take m (set w u y) ≡ take u w ++ (y ∷ replicate (m - u - 1) 0)
 begun w u m y e h l =
-    same-list m _ _ (length-take-le m (set w u y) (subst (λ (n : ℕ). m ≤ n) (sym (length-set w u y)) l))
+    same_list m _ _ (length-take-le m (set w u y) (subst (λ (n : ℕ). m ≤ n) (sym (length-set w u y)) l))
     (length-append (take u w) _ ∙ omega (arith, short, length-replicate {A = ℕ} (m - u - 1) 0))
-    (λ k lt. get_or-take m (set w u y) k 0 lt ∙ ⊎_elim (before k) (from k lt) (lt-or-le k u))
+    (λ k lt. get_or-take m (set w u y) k 0 lt ∙ ⊎_elim (before k) (from k lt) (lt_or_le k u))
   where
     short : length (take u w) ≡ u
     short = length-take-le u w (omega arith)
@@ -63,7 +63,7 @@ begun w u m y e h l =
     behind zero lt =
         ap (λ (i : ℕ). get_or (set w u y) i 0) (add-zero u) ∙ get_or-set_same w u y 0 (omega arith)
     behind (suc j) lt =
-        get_or-set_other w u (u + suc j) y 0 (λ q. omega arith) ∙ zero-from w (suc u) (u + suc j) e (omega arith)
+        get_or-set_other w u (u + suc j) y 0 (λ q. omega arith) ∙ zero_from w (suc u) (u + suc j) e (omega arith)
         ∙ sym (get_or-replicate (m - u - 1) j 0 0 (omega arith))
 
     on : (k : ℕ) → u ≤ k → u + (k - u) ≡ k
@@ -75,7 +75,7 @@ begun w u m y e h l =
         ∙ behind (k - u) (omega arith)
         ∙ sym
         (ap (λ (i : ℕ). get_or (take u w ++ (y ∷ replicate (m - u - 1) 0)) i 0) (sym (on k g))
-        ∙ second-part u (take u w) (y ∷ replicate (m - u - 1) 0) short (k - u))
+        ∙ second_part u (take u w) (y ∷ replicate (m - u - 1) 0) short (k - u))
 
 -- ---- the numbers
 
@@ -85,19 +85,19 @@ module _ (msize L : ℕ) (least : 145 ≤ msize) where
   some = omega arith
 
   -- the padding fits behind the bits that wait
-  one_block : L % msize + 145 ≤ msize → blockCount msize L - L / msize ≡ 1
-  unfolding blockCount
-  one_block h = omega (arith, div-on msize some L 144, div-eq_of_lt (less h))
+  one_block : L % msize + 145 ≤ msize → block_count msize L - L / msize ≡ 1
+  unfolding block_count
+  one_block h = omega (arith, div_on msize some L 144, div-eq_of_lt (less h))
     where
       less : L % msize + 145 ≤ msize → L % msize + 144 < msize
       less h = omega arith
 
   -- it does not: a second block
-  two_blocks : msize < L % msize + 145 → blockCount msize L - L / msize ≡ 2
-  unfolding blockCount
+  two_blocks : msize < L % msize + 145 → block_count msize L - L / msize ≡ 2
+  unfolding block_count
   two_blocks h =
       omega
-      (arith, div-on msize some L 144, ap (λ (x : ℕ). x / msize) (over h) ∙ mul-add-div some 1 (L % msize + 144 - msize), div-eq_of_lt (rest h), mod-lt L some)
+      (arith, div_on msize some L 144, ap (λ (x : ℕ). x / msize) (over h) ∙ mul-add-div some 1 (L % msize + 144 - msize), div-eq_of_lt (rest h), mod-lt L some)
     where
       over : msize < L % msize + 145 → L % msize + 144 ≡ msize * 1 + (L % msize + 144 - msize)
       over h = omega (arith, mul-one msize)
@@ -105,9 +105,9 @@ module _ (msize L : ℕ) (least : 145 ≤ msize) where
       rest : msize < L % msize + 145 → L % msize + 144 - msize < msize
       rest h = omega (arith, mod-lt L some)
 
-  first-counter : counterAt msize L (L / msize + 0) ≡ either (eqb (L % msize) 0) 0 L
-  unfolding counterAt
-  first-counter = by (L % msize) refl
+  first_counter : counter_at msize L (L / msize + 0) ≡ either (eqb (L % msize) 0) 0 L
+  unfolding counter_at
+  first_counter = by (L % msize) refl
     where
       here : msize * (L / msize + 0) ≡ msize * (L / msize)
       here = ap (λ (x : ℕ). msize * x) (add-zero (L / msize))
@@ -124,9 +124,9 @@ module _ (msize L : ℕ) (least : 145 ≤ msize) where
           ∙ min-eq_left (omega (arith, here, div-add-mod L msize, mod-lt L some))
           ∙ sym (ap (λ (t : Bool). either t 0 L) (ne_eqb (L % msize) 0 (λ z. omega arith)))
 
-  second-counter : counterAt msize L (L / msize + 1) ≡ 0
-  unfolding counterAt
-  second-counter =
+  second_counter : counter_at msize L (L / msize + 1) ≡ 0
+  unfolding counter_at
+  second_counter =
       ap (λ (t : Bool). either t (min L (msize * (L / msize + 1) + msize)) 0)
       (le-ltb (msize * (L / msize + 1)) L (omega (arith, mul-add msize (L / msize) 1, mul-one msize, div-add-mod L msize, mod-lt L some)))
 
@@ -135,17 +135,17 @@ module _ (b n : ℕ) (least : 128 ≤ b) where
   some_bytes : 0 < b
   some_bytes = omega arith
 
-  one-zeros : n % b + 19 ≤ b → b - (n + 18) % b - 1 ≡ b - 18 - n % b - 1
-  one-zeros h = omega (arith, mod-on b some_bytes n 18, mod-eq_of_lt (less h))
+  one_zeros : n % b + 19 ≤ b → b - (n + 18) % b - 1 ≡ b - 18 - n % b - 1
+  one_zeros h = omega (arith, mod_on b some_bytes n 18, mod-eq_of_lt (less h))
     where
       less : n % b + 19 ≤ b → n % b + 18 < b
       less h = omega arith
 
-  two-zeros : b < n % b + 19 → b - (n + 18) % b - 1 ≡ b - n % b - 1 + (b - 18)
-  two-zeros h =
+  two_zeros : b < n % b + 19 → b - (n + 18) % b - 1 ≡ b - n % b - 1 + (b - 18)
+  two_zeros h =
       omega (
         arith,
-        mod-on b some_bytes n 18,
+        mod_on b some_bytes n 18,
         ap (λ (x : ℕ). x % b) (over h) ∙ mul-add-mod_self_left b 1 (n % b + 18 - b),
         mod-eq_of_lt (rest h),
         mod-lt n some_bytes,
@@ -159,16 +159,16 @@ module _ (b n : ℕ) (least : 128 ≤ b) where
 
 -- the padding fits, told by the whole bytes or by the bits
 module _ (b L : ℕ) (least : 128 ≤ b) where
-  one-by-bits : L / 8 % b + 19 ≤ b → L % (8 * b) + 145 ≤ 8 * b
-  one-by-bits h = omega (arith, bits-mod b (some_bytes b L least) L)
+  one_by_bits : L / 8 % b + 19 ≤ b → L % (8 * b) + 145 ≤ 8 * b
+  one_by_bits h = omega (arith, bits_mod b (some_bytes b L least) L)
 
-  two-by-bits : b < L / 8 % b + 19 → 8 * b < L % (8 * b) + 145
-  two-by-bits h = omega (arith, bits-mod b (some_bytes b L least) L)
+  two_by_bits : b < L / 8 % b + 19 → 8 * b < L % (8 * b) + 145
+  two_by_bits h = omega (arith, bits_mod b (some_bytes b L least) L)
 
 -- ---- the blocks
 
-take-zeros : (m n : ℕ) → m ≤ n → take {A = ℕ} m (replicate n 0) ≡ replicate m 0
-take-zeros m n h =
+take_zeros : (m n : ℕ) → m ≤ n → take {A = ℕ} m (replicate n 0) ≡ replicate m 0
+take_zeros m n h =
     ap (take m) (ap (λ (k : ℕ). replicate k 0) (sym (on h)) ∙ sym (replicate-append-replicate m (n - m) 0))
     ∙ take_at (replicate m 0) (replicate (n - m) 0) m (length-replicate m 0)
   where
@@ -176,120 +176,120 @@ take-zeros m n h =
     on h = omega arith
 
 -- w is a waiting block in which the padding has begun: y is the part byte, marked, behind the whole bytes
-module _ (b h L y : ℕ) (w : List ℕ) (lw : length w ≡ 224) (least : 128 ≤ b) (most : b ≤ 224) (z : allZero (drop (suc (L / 8 % b)) w) ≡ true) where
+module _ (b h L y : ℕ) (w : List ℕ) (lw : length w ≡ 224) (least : 128 ≤ b) (most : b ≤ 224) (z : all_zero (drop (suc (L / 8 % b)) w) ≡ true) where
   abbrev used : ℕ
   used = L / 8 % b
 
   -- the bytes that are left
   abbrev left : List ℕ
-  left = take used w ++ (y ∷ (replicate (b - (L / 8 + 18) % b - 1) 0 ++ lengthsOf h L))
+  left = take used w ++ (y ∷ (replicate (b - (L / 8 + 18) % b - 1) 0 ++ lengths_of h L))
 
-  begun-long : (m : ℕ) → m ≤ 224 → length (take m (set w used y)) ≡ m
-  begun-long m l = length-take-le m (set w used y) (omega (arith, length-set w used y))
+  begun_long : (m : ℕ) → m ≤ 224 → length (take m (set w used y)) ≡ m
+  begun_long m l = length-take-le m (set w used y) (omega (arith, length-set w used y))
 
   -- one block: the waiting bytes, the marked byte, zeros and the lengths
-  one : used + 19 ≤ b → block b left 0 ≡ take (b - 18) (set w used y) ++ lengthsOf h L
+  one : used + 19 ≤ b → block b left 0 ≡ take (b - 18) (set w used y) ++ lengths_of h L
   unfolding block
   one k =
       ap₂ (λ (x : ℕ) (l : List ℕ). take b (drop x l)) (mul-zero b)
-      (ap (λ (x : ℕ). take used w ++ (y ∷ (replicate x 0 ++ lengthsOf h L))) (one-zeros b (L / 8) least k)
-      ∙ sym (append_assoc (take used w) (y ∷ replicate (b - 18 - used - 1) 0) (lengthsOf h L))
-      ∙ ap (λ (l : List ℕ). l ++ lengthsOf h L) (sym (begun w used (b - 18) y z (omega arith) (omega arith))))
-      ∙ take_all b (take (b - 18) (set w used y) ++ lengthsOf h L)
-      (omega (arith, length-append (take (b - 18) (set w used y)) (lengthsOf h L), length-lengths h L, begun-long (b - 18) (omega arith)))
+      (ap (λ (x : ℕ). take used w ++ (y ∷ (replicate x 0 ++ lengths_of h L))) (one_zeros b (L / 8) least k)
+      ∙ sym (append_assoc (take used w) (y ∷ replicate (b - 18 - used - 1) 0) (lengths_of h L))
+      ∙ ap (λ (l : List ℕ). l ++ lengths_of h L) (sym (begun w used (b - 18) y z (omega arith) (omega arith))))
+      ∙ take_all b (take (b - 18) (set w used y) ++ lengths_of h L)
+      (omega (arith, length-append (take (b - 18) (set w used y)) (lengths_of h L), length_lengths h L, begun_long (b - 18) (omega arith)))
 
   -- two blocks: the lengths stand in the second
-  halves : b < used + 19 → left ≡ take b (set w used y) ++ (replicate (b - 18) 0 ++ lengthsOf h L)
+  halves : b < used + 19 → left ≡ take b (set w used y) ++ (replicate (b - 18) 0 ++ lengths_of h L)
   halves k =
-      ap (λ (x : ℕ). take used w ++ (y ∷ (replicate x 0 ++ lengthsOf h L))) (two-zeros b (L / 8) least k)
-      ∙ ap (λ (l : List ℕ). take used w ++ (y ∷ (l ++ lengthsOf h L))) (sym (replicate-append-replicate (b - used - 1) (b - 18) 0))
-      ∙ ap (λ (l : List ℕ). take used w ++ (y ∷ l)) (append_assoc (replicate (b - used - 1) 0) (replicate (b - 18) 0) (lengthsOf h L))
-      ∙ sym (append_assoc (take used w) (y ∷ replicate (b - used - 1) 0) (replicate (b - 18) 0 ++ lengthsOf h L))
-      ∙ ap (λ (l : List ℕ). l ++ (replicate (b - 18) 0 ++ lengthsOf h L)) (sym (begun w used b y z (mod-lt (L / 8) (some_bytes b L least)) (omega arith)))
+      ap (λ (x : ℕ). take used w ++ (y ∷ (replicate x 0 ++ lengths_of h L))) (two_zeros b (L / 8) least k)
+      ∙ ap (λ (l : List ℕ). take used w ++ (y ∷ (l ++ lengths_of h L))) (sym (replicate-append-replicate (b - used - 1) (b - 18) 0))
+      ∙ ap (λ (l : List ℕ). take used w ++ (y ∷ l)) (append_assoc (replicate (b - used - 1) 0) (replicate (b - 18) 0) (lengths_of h L))
+      ∙ sym (append_assoc (take used w) (y ∷ replicate (b - used - 1) 0) (replicate (b - 18) 0 ++ lengths_of h L))
+      ∙ ap (λ (l : List ℕ). l ++ (replicate (b - 18) 0 ++ lengths_of h L)) (sym (begun w used b y z (mod-lt (L / 8) (some_bytes b L least)) (omega arith)))
 
-  two-first : b < used + 19 → block b left 0 ≡ take b (set w used y)
+  two_first : b < used + 19 → block b left 0 ≡ take b (set w used y)
   unfolding block
-  two-first k = ap₂ (λ (x : ℕ) (l : List ℕ). take b (drop x l)) (mul-zero b) (halves k) ∙ take_at (take b (set w used y)) _ b (begun-long b most)
+  two_first k = ap₂ (λ (x : ℕ) (l : List ℕ). take b (drop x l)) (mul-zero b) (halves k) ∙ take_at (take b (set w used y)) _ b (begun_long b most)
 
-  two-second : b < used + 19 → block b left 1 ≡ take (b - 18) (replicate 224 0) ++ lengthsOf h L
+  two_second : b < used + 19 → block b left 1 ≡ take (b - 18) (replicate 224 0) ++ lengths_of h L
   unfolding block
-  two-second k =
+  two_second k =
       ap₂ (λ (x : ℕ) (l : List ℕ). take b (drop x l)) (mul-one b) (halves k)
-      ∙ ap (take b) (drop_at (take b (set w used y)) _ b (begun-long b most))
-      ∙ take_all b (replicate (b - 18) 0 ++ lengthsOf h L)
-      (omega (arith, length-append (replicate (b - 18) 0) (lengthsOf h L), length-replicate {A = ℕ} (b - 18) 0, length-lengths h L))
-      ∙ ap (λ (l : List ℕ). l ++ lengthsOf h L) (sym (take-zeros (b - 18) 224 (omega arith)))
+      ∙ ap (take b) (drop_at (take b (set w used y)) _ b (begun_long b most))
+      ∙ take_all b (replicate (b - 18) 0 ++ lengths_of h L)
+      (omega (arith, length-append (replicate (b - 18) 0) (lengths_of h L), length-replicate {A = ℕ} (b - 18) 0, length_lengths h L))
+      ∙ ap (λ (l : List ℕ). l ++ lengths_of h L) (sym (take_zeros (b - 18) 224 (omega arith)))
 
 -- ---- the lengths e put into the last bytes of a block, by a block size b that the code computed
 
-module _ (mode : Mode) (h b : ℕ) (size : b ≡ blockSize mode h) where
-  pub lengths-fit : 18 ≤ b
-  lengths-fit = let S = sizes mode h in omega arith
+module _ (mode : Mode) (h b : ℕ) (size : b ≡ block_size mode h) where
+  pub lengths_fit : 18 ≤ b
+  lengths_fit = let S = sizes mode h in omega arith
 
   module _ (w e : List ℕ) (lw : length w ≡ 224) (le : length e ≡ 18) where
-    pub lengths-within : b - 18 + length e ≤ length w
-    lengths-within = let S = sizes mode h in omega arith
+    pub lengths_within : b - 18 + length e ≤ length w
+    lengths_within = let S = sizes mode h in omega arith
 
-    pub closed_block : (L k : ℕ) (salt v t u : List ℕ) → u ≡ compressed mode h salt v k (take (blockSize mode h) t) → Placed w (b - 18) e (length e) t
-        → e ≡ lengthsOf h L → u ≡ compressed mode h salt v k (take (blockSize mode h - 18) w ++ lengthsOf h L)
+    pub closed_block : (L k : ℕ) (salt v t u : List ℕ) → u ≡ compressed mode h salt v k (take (block_size mode h) t) → Placed w (b - 18) e (length e) t
+        → e ≡ lengths_of h L → u ≡ compressed mode h salt v k (take (block_size mode h - 18) w ++ lengths_of h L)
     closed_block L k salt v t u r P d =
         let S = sizes mode h in
         r
         ∙ ap (compressed mode h salt v k)
-        (closed (blockSize mode h) w e t lw S.block-least S.block-most le
+        (closed (block_size mode h) w e t lw S.block_least S.block_most le
         (subst (λ (x : ℕ). Placed w (x - 18) e 18 t) size (subst (λ (x : ℕ). Placed w (b - 18) e x t) le P))
-        ∙ ap (λ (l : List ℕ). take (blockSize mode h - 18) w ++ l) d)
+        ∙ ap (λ (l : List ℕ). take (block_size mode h - 18) w ++ l) d)
 
 -- ---- the final chaining variable
 
 abbrev step : Mode → ℕ → List ℕ → ℕ → List ℕ → List ℕ → List ℕ
-step mode h salt k = compress (chainingSize mode h) (roundCount mode (chainingSize mode h)) (keysFrom k) salt
+step mode h salt k = compress (chaining_size mode h) (round_count mode (chaining_size mode h)) (keys_from k) salt
 
 -- the chaining variable of the room that has taken a block
 taken_in : (mode : Mode) (h : ℕ) (salt v : List ℕ) (k : ℕ) (m : List ℕ)
-    → take (chainingSize mode h) (compressed mode h salt v k m) ≡ step mode h salt k (take (chainingSize mode h) v) m
-unfolding compress bigFinal
-taken_in mode h salt v k m = take_at _ (drop (chainingSize mode h) v) (chainingSize mode h) (length-xor (chainingSize mode h) _ _)
+    → take (chaining_size mode h) (compressed mode h salt v k m) ≡ step mode h salt k (take (chaining_size mode h) v) m
+unfolding compress big_final
+taken_in mode h salt v k m = take_at _ (drop (chaining_size mode h) v) (chaining_size mode h) (length-xor (chaining_size mode h) _ _)
 
 -- the bits that wait, unused ones zero: whole bytes, a part byte, and zeros behind it
-module _ (mode : Mode) (h L : ℕ) (w : List ℕ) (lw : length w ≡ 224) (z : allZero (drop (L % (8 * blockSize mode h)) (bits_of w)) ≡ true) where
+module _ (mode : Mode) (h L : ℕ) (w : List ℕ) (lw : length w ≡ 224) (z : all_zero (drop (L % (8 * block_size mode h)) (bits_of w)) ≡ true) where
   abbrev at : ℕ
-  at = L / 8 % blockSize mode h
+  at = L / 8 % block_size mode h
 
-  at_place : L % (8 * blockSize mode h) ≡ 8 * at + L % 8
-  at_place = bits-mod (blockSize mode h) (block-pos mode h) L
+  at_place : L % (8 * block_size mode h) ≡ 8 * at + L % 8
+  at_place = bits_mod (block_size mode h) (block_pos mode h) L
 
   within : at < length w
-  within = let S = sizes mode h in omega (arith, mod-lt (L / 8) (block-pos mode h))
+  within = let S = sizes mode h in omega (arith, mod-lt (L / 8) (block_pos mode h))
 
   few : L % 8 < 8
   few = omega arith
 
-  ended : (allZero (drop (L % 8) (byteBits (get_or w at 0))) ≡ true) × (allZero (drop (suc at) w) ≡ true)
+  ended : (all_zero (drop (L % 8) (byte_bits (get_or w at 0))) ≡ true) × (all_zero (drop (suc at) w) ≡ true)
   ended =
-      both (allZero (drop (L % 8) (byteBits (get_or w at 0)))) (allZero (drop (suc at) w))
-      (sym (zero-within w at (L % 8) within (omega (arith, few))) ∙ ap (λ (n : ℕ). allZero (drop n (bits_of w))) (sym at_place) ∙ z)
+      both (all_zero (drop (L % 8) (byte_bits (get_or w at 0)))) (all_zero (drop (suc at) w))
+      (sym (zero_within w at (L % 8) within (omega (arith, few))) ∙ ap (λ (n : ℕ). all_zero (drop n (bits_of w))) (sym at_place) ∙ z)
 
-  pub part-is : Part (get_or w at 0) (L % 8)
-  part-is = record { few = few; clear = ended.0 }
+  pub part_is : Part (get_or w at 0) (L % 8)
+  part_is = record { few = few; clear = ended.0 }
 
-  pub zero-after : allZero (drop (suc at) w) ≡ true
-  zero-after = ended.1
+  pub zero_after : all_zero (drop (suc at) w) ≡ true
+  zero_after = ended.1
 
   -- with the padding, in bytes
-  pub bytes_left : packed (take (L % (8 * blockSize mode h)) (bits_of w) ++ padding (8 * blockSize mode h) h L)
-      ≡ take at w ++ ending (blockSize mode h) h L (get_or w at 0)
+  pub bytes_left : packed (take (L % (8 * block_size mode h)) (bits_of w) ++ padding (8 * block_size mode h) h L)
+      ≡ take at w ++ ending (block_size mode h) h L (get_or w at 0)
   bytes_left =
-      ap (λ (l : List ℕ). packed (l ++ padding (8 * blockSize mode h) h L))
+      ap (λ (l : List ℕ). packed (l ++ padding (8 * block_size mode h) h L))
       (ap (λ (n : ℕ). take n (bits_of w)) at_place ∙ take_part w at (L % 8) within (omega (arith, few)))
-      ∙ packed-behind (blockSize mode h) (block-pos mode h) h L (get_or w at 0) part-is (take at w)
+      ∙ packed_behind (block_size mode h) (block_pos mode h) h L (get_or w at 0) part_is (take at w)
 
-module _ (mode : Mode) (h L : ℕ) (salt v w : List ℕ) (lw : length w ≡ 224) (z : allZero (drop (L % (8 * blockSize mode h)) (bits_of w)) ≡ true) where
+module _ (mode : Mode) (h L : ℕ) (salt v w : List ℕ) (lw : length w ≡ 224) (z : all_zero (drop (L % (8 * block_size mode h)) (bits_of w)) ≡ true) where
   abbrev b : ℕ
-  b = blockSize mode h
+  b = block_size mode h
 
   abbrev c : ℕ
-  c = chainingSize mode h
+  c = chaining_size mode h
 
   -- the place of the marked byte, and the byte
   abbrev u : ℕ
@@ -303,91 +303,91 @@ module _ (mode : Mode) (h L : ℕ) (salt v w : List ℕ) (lw : length w ≡ 224)
   bytes = take u w ++ ending b h L (get_or w u 0)
 
   abbrev counters : ℕ → ℕ
-  counters i = counterAt (8 * b) L (L / (8 * b) + i)
+  counters i = counter_at (8 * b) L (L / (8 * b) + i)
 
   abbrev through : ℕ → List ℕ
-  through = iterate c (roundCount mode c) salt (take c v) (block b bytes) counters
+  through = iterate c (round_count mode c) salt (take c v) (block b bytes) counters
 
-  zeros : allZero (drop (suc u) w) ≡ true
-  zeros = zero-after mode h L w lw z
+  zeros : all_zero (drop (suc u) w) ≡ true
+  zeros = zero_after mode h L w lw z
 
-  final-is : finalChaining (made mode h salt v L w) ≡ through (blockCount (8 * b) L - L / (8 * b))
-  unfolding finalChaining
-  final-is =
-      ap (λ (l : List ℕ). iterate c (roundCount mode c) salt (take c v) (block b l) counters (blockCount (8 * b) L - L / (8 * b)))
+  final_is : final_chaining (made mode h salt v L w) ≡ through (block_count (8 * b) L - L / (8 * b))
+  unfolding final_chaining
+  final_is =
+      ap (λ (l : List ℕ). iterate c (round_count mode c) salt (take c v) (block b l) counters (block_count (8 * b) L - L / (8 * b)))
       (bytes_left mode h L w lw z)
 
   long : 145 ≤ 8 * b
   long = let S = sizes mode h in omega arith
 
-  first-in : (r m : List ℕ) → r ≡ compressed mode h salt v (either (eqb (L % (8 * b)) 0) 0 L) m → m ≡ block b bytes 0
+  first_in : (r m : List ℕ) → r ≡ compressed mode h salt v (either (eqb (L % (8 * b)) 0) 0 L) m → m ≡ block b bytes 0
       → take c r ≡ step mode h salt (counters 0) (take c v) (block b bytes 0)
-  first-in r m e f =
+  first_in r m e f =
       ap (take c) e
       ∙ taken_in mode h salt v _ m
-      ∙ ap₂ (λ (k : ℕ) (l : List ℕ). step mode h salt k (take c v) l) (sym (first-counter (8 * b) L long)) f
+      ∙ ap₂ (λ (k : ℕ) (l : List ℕ). step mode h salt k (take c v) l) (sym (first_counter (8 * b) L long)) f
 
-  final-one : u + 19 ≤ b → (r : List ℕ) → r ≡ compressed mode h salt v (either (eqb (L % (8 * b)) 0) 0 L) (take (b - 18) (set w u y) ++ lengthsOf h L)
-      → take c r ≡ finalChaining (made mode h salt v L w)
+  final_one : u + 19 ≤ b → (r : List ℕ) → r ≡ compressed mode h salt v (either (eqb (L % (8 * b)) 0) 0 L) (take (b - 18) (set w u y) ++ lengths_of h L)
+      → take c r ≡ final_chaining (made mode h salt v L w)
   unfolding iterate
-  final-one k r e =
+  final_one k r e =
       let S = sizes mode h in
-      first-in r _ e (sym (one b h L y w lw S.block-least S.block-most zeros k))
-      ∙ ap through (sym (one_block (8 * b) L long (one-by-bits b L S.block-least k)))
-      ∙ sym final-is
+      first_in r _ e (sym (one b h L y w lw S.block_least S.block_most zeros k))
+      ∙ ap through (sym (one_block (8 * b) L long (one_by_bits b L S.block_least k)))
+      ∙ sym final_is
 
-  final-two : b < u + 19 → (r : List ℕ) → r ≡ compressed mode h salt v (either (eqb (L % (8 * b)) 0) 0 L) (take b (set w u y))
-      → take c (compressed mode h salt r 0 (take (b - 18) (replicate 224 0) ++ lengthsOf h L)) ≡ finalChaining (made mode h salt v L w)
+  final_two : b < u + 19 → (r : List ℕ) → r ≡ compressed mode h salt v (either (eqb (L % (8 * b)) 0) 0 L) (take b (set w u y))
+      → take c (compressed mode h salt r 0 (take (b - 18) (replicate 224 0) ++ lengths_of h L)) ≡ final_chaining (made mode h salt v L w)
   unfolding iterate
-  final-two k r e =
+  final_two k r e =
       let S = sizes mode h in
       taken_in mode h salt r 0 _
-      ∙ ap₂ (step mode h salt 0) (first-in r _ e (sym (two-first b h L y w lw S.block-least S.block-most zeros k)))
-      (sym (two-second b h L y w lw S.block-least S.block-most zeros k))
-      ∙ ap (λ (x : ℕ). step mode h salt x (step mode h salt (counters 0) (take c v) (block b bytes 0)) (block b bytes 1)) (sym (second-counter (8 * b) L long))
-      ∙ ap through (sym (two_blocks (8 * b) L long (two-by-bits b L S.block-least k)))
-      ∙ sym final-is
+      ∙ ap₂ (step mode h salt 0) (first_in r _ e (sym (two_first b h L y w lw S.block_least S.block_most zeros k)))
+      (sym (two_second b h L y w lw S.block_least S.block_most zeros k))
+      ∙ ap (λ (x : ℕ). step mode h salt x (step mode h salt (counters 0) (take c v) (block b bytes 0)) (block b bytes 1)) (sym (second_counter (8 * b) L long))
+      ∙ ap through (sym (two_blocks (8 * b) L long (two_by_bits b L S.block_least k)))
+      ∙ sym final_is
 
 -- the part byte, at the place that the code computed
-pub part-clear : (mode : Mode) (h L b : ℕ) → b ≡ blockSize mode h → (w : List ℕ) → length w ≡ 224
-    → allZero (drop (L % (8 * blockSize mode h)) (bits_of w)) ≡ true → allZero (drop (L % 8) (byteBits (get_or w (L / 8 % b) 0))) ≡ true
-part-clear mode h L b size w lw z =
-    ap (λ (x : ℕ). allZero (drop (L % 8) (byteBits (get_or w (L / 8 % x) 0)))) size ∙ (part-is mode h L w lw z).clear
+pub part_clear : (mode : Mode) (h L b : ℕ) → b ≡ block_size mode h → (w : List ℕ) → length w ≡ 224
+    → all_zero (drop (L % (8 * block_size mode h)) (bits_of w)) ≡ true → all_zero (drop (L % 8) (byte_bits (get_or w (L / 8 % b) 0))) ≡ true
+part_clear mode h L b size w lw z =
+    ap (λ (x : ℕ). all_zero (drop (L % 8) (byte_bits (get_or w (L / 8 % x) 0)))) size ∙ (part_is mode h L w lw z).clear
 
 -- the counter of a block that is left is low enough
-end-counter-fits : (u L : ℕ) → L ≤ bitLimit → either (eqb u 0) 0 L ≤ 2 ^ 64 - 161
-end-counter-fits u L h = by (eqb u 0)
+end_counter_fits : (u L : ℕ) → L ≤ bit_limit → either (eqb u 0) 0 L ≤ 2 ^ 64 - 161
+end_counter_fits u L h = by (eqb u 0)
   where
     by : (t : Bool) → either t 0 L ≤ 2 ^ 64 - 161
     by true = omega arith
     by false = omega arith
 
 -- the same of the block size b and the counter k that the code has
-module _ (mode : Mode) (h L b k : ℕ) (size : b ≡ blockSize mode h) (counter : k ≡ either (eqb (L % (8 * b)) 0) 0 L) where
-  counter-is : k ≡ either (eqb (L % (8 * blockSize mode h)) 0) 0 L
-  counter-is = counter ∙ ap (λ (x : ℕ). either (eqb (L % (8 * x)) 0) 0 L) size
+module _ (mode : Mode) (h L b k : ℕ) (size : b ≡ block_size mode h) (counter : k ≡ either (eqb (L % (8 * b)) 0) 0 L) where
+  counter_is : k ≡ either (eqb (L % (8 * block_size mode h)) 0) 0 L
+  counter_is = counter ∙ ap (λ (x : ℕ). either (eqb (L % (8 * x)) 0) 0 L) size
 
-  pub counter-fits : L ≤ bitLimit → k ≤ 2 ^ 64 - 161
-  counter-fits m = omega (arith, counter-is, end-counter-fits (L % (8 * blockSize mode h)) L m)
+  pub counter_fits : L ≤ bit_limit → k ≤ 2 ^ 64 - 161
+  counter_fits m = omega (arith, counter_is, end_counter_fits (L % (8 * block_size mode h)) L m)
 
   -- and of the marked byte y
-  module _ (salt v w : List ℕ) (lw : length w ≡ 224) (z : allZero (drop (L % (8 * blockSize mode h)) (bits_of w)) ≡ true)
+  module _ (salt v w : List ℕ) (lw : length w ≡ 224) (z : all_zero (drop (L % (8 * block_size mode h)) (bits_of w)) ≡ true)
       (y : ℕ) (mark : y ≡ get_or w (L / 8 % b) 0 + 2 ^ (7 - L % 8)) where
-    begun-is : set w (L / 8 % b) y ≡ set w (L / 8 % blockSize mode h) (get_or w (L / 8 % blockSize mode h) 0 + 2 ^ (7 - L % 8))
-    begun-is = ap (set w (L / 8 % b)) mark ∙ ap (λ (x : ℕ). set w (L / 8 % x) (get_or w (L / 8 % x) 0 + 2 ^ (7 - L % 8))) size
+    begun_is : set w (L / 8 % b) y ≡ set w (L / 8 % block_size mode h) (get_or w (L / 8 % block_size mode h) 0 + 2 ^ (7 - L % 8))
+    begun_is = ap (set w (L / 8 % b)) mark ∙ ap (λ (x : ℕ). set w (L / 8 % x) (get_or w (L / 8 % x) 0 + 2 ^ (7 - L % 8))) size
 
     pub one_left : L / 8 % b + 19 ≤ b → (u : List ℕ)
-        → u ≡ compressed mode h salt v k (take (blockSize mode h - 18) (set w (L / 8 % b) y) ++ lengthsOf h L)
-        → take (chainingSize mode h) u ≡ finalChaining (made mode h salt v L w)
+        → u ≡ compressed mode h salt v k (take (block_size mode h - 18) (set w (L / 8 % b) y) ++ lengths_of h L)
+        → take (chaining_size mode h) u ≡ final_chaining (made mode h salt v L w)
     one_left fits u e =
-        final-one mode h L salt v w lw z (subst (λ (x : ℕ). L / 8 % x + 19 ≤ x) size fits) u
-        (e ∙ ap₂ (λ (x : ℕ) (l : List ℕ). compressed mode h salt v x (take (blockSize mode h - 18) l ++ lengthsOf h L)) counter-is begun-is)
+        final_one mode h L salt v w lw z (subst (λ (x : ℕ). L / 8 % x + 19 ≤ x) size fits) u
+        (e ∙ ap₂ (λ (x : ℕ) (l : List ℕ). compressed mode h salt v x (take (block_size mode h - 18) l ++ lengths_of h L)) counter_is begun_is)
 
-    pub two-left : b < L / 8 % b + 19 → (u l r : List ℕ) → u ≡ compressed mode h salt v k (take (blockSize mode h) (set w (L / 8 % b) y))
-        → l ≡ replicate (length (set w (L / 8 % b) y)) 0 → r ≡ compressed mode h salt u 0 (take (blockSize mode h - 18) l ++ lengthsOf h L)
-        → take (chainingSize mode h) r ≡ finalChaining (made mode h salt v L w)
-    two-left over u l r first zeros second =
-        ap (take (chainingSize mode h))
-        (second ∙ ap (λ (x : List ℕ). compressed mode h salt u 0 (take (blockSize mode h - 18) x ++ lengthsOf h L)) (cleared w l (L / 8 % b) y 224 zeros lw))
-        ∙ final-two mode h L salt v w lw z (subst (λ (x : ℕ). x < L / 8 % x + 19) size over) u
-        (first ∙ ap₂ (λ (x : ℕ) (l : List ℕ). compressed mode h salt v x (take (blockSize mode h) l)) counter-is begun-is)
+    pub two_left : b < L / 8 % b + 19 → (u l r : List ℕ) → u ≡ compressed mode h salt v k (take (block_size mode h) (set w (L / 8 % b) y))
+        → l ≡ replicate (length (set w (L / 8 % b) y)) 0 → r ≡ compressed mode h salt u 0 (take (block_size mode h - 18) l ++ lengths_of h L)
+        → take (chaining_size mode h) r ≡ final_chaining (made mode h salt v L w)
+    two_left over u l r first zeros second =
+        ap (take (chaining_size mode h))
+        (second ∙ ap (λ (x : List ℕ). compressed mode h salt u 0 (take (block_size mode h - 18) x ++ lengths_of h L)) (cleared w l (L / 8 % b) y 224 zeros lw))
+        ∙ final_two mode h L salt v w lw z (subst (λ (x : ℕ). x < L / 8 % x + 19) size over) u
+        (first ∙ ap₂ (λ (x : ℕ) (l : List ℕ). compressed mode h salt v x (take (block_size mode h) l)) counter_is begun_is)

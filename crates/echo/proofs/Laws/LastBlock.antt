@@ -6,12 +6,12 @@ use lib.ListN.{length-replicate}
 use Rattle.aes_round.proofs.Promises.{length-tab}
 use Rattle.echo.specs.Bits.{bits_of, packed}
 use Rattle.echo.specs.Compression.{compress}
-use Rattle.echo.specs.Digest.{block, blockCount, counterAt, iterate}
-use Rattle.echo.specs.Numbers.{littleEndian}
+use Rattle.echo.specs.Digest.{block, block_count, counter_at, iterate}
+use Rattle.echo.specs.Numbers.{little_endian}
 use Rattle.echo.specs.Padding.{padding}
-use Rattle.echo.specs.Square.{keysFrom}
-use Rattle.echo.proofs.Laws.Bits.{bits-append, length-bits}
-use Rattle.echo.proofs.Laws.Padded.{length-lengths, lengthsOf}
+use Rattle.echo.specs.Square.{keys_from}
+use Rattle.echo.proofs.Laws.Bits.{bits_append, length-bits}
+use Rattle.echo.proofs.Laws.Padded.{length_lengths, lengths_of}
 
 module _ (b q : ℕ) (rest : List ℕ) (some : 0 < length rest) (short : length rest + 18 < b) where
   abbrev msize : ℕ
@@ -32,12 +32,12 @@ module _ (b q : ℕ) (rest : List ℕ) (some : 0 < length rest) (short : length 
   behind : L + 144 ≡ msize * q + (n + 144)
   behind = omega arith
 
-  one : blockCount msize L - q ≡ 1
-  unfolding blockCount
+  one : block_count msize L - q ≡ 1
+  unfolding block_count
   one = omega (arith, ap (λ (k : ℕ). k / msize) behind ∙ mul-add-div pos q (n + 144), div-eq_of_lt within)
 
-  counter : counterAt msize L (q + 0) ≡ L
-  unfolding counterAt
+  counter : counter_at msize L (q + 0) ≡ L
+  unfolding counter_at
   counter = rw (add-zero q, lt-ltb (msize * q) L (omega arith)) (min-eq_left (omega arith))
 
   module _ (h : ℕ) where
@@ -48,33 +48,33 @@ module _ (b q : ℕ) (rest : List ℕ) (some : 0 < length rest) (short : length 
     unfolding padding
     fills =
         let zeros = msize - (L + 144) % msize - 1 in
-        let ends = bits_of (littleEndian 2 h) ++ bits_of (littleEndian 16 L) in
+        let ends = bits_of (little_endian 2 h) ++ bits_of (little_endian 16 L) in
         omega (
           arith,
           length-append (bits_of rest) (padding msize h L),
           length-bits rest,
           length-append (replicate zeros 0) ends,
           length-replicate {A = ℕ} zeros 0,
-          ap length (bits-append (littleEndian 2 h) (littleEndian 16 L)),
-          length-bits (lengthsOf h L),
-          length-lengths h L,
+          ap length (bits_append (little_endian 2 h) (little_endian 16 L)),
+          length-bits (lengths_of h L),
+          length_lengths h L,
           ap (λ (k : ℕ). k % msize) behind ∙ mul-add-mod_self_left msize q (n + 144) ∙ mod-eq_of_lt within,
         )
 
-    padded-long : length padded ≡ b
+    padded_long : length padded ≡ b
     unfolding packed
-    padded-long = length-tab _ _ ∙ ap (λ (k : ℕ). k / 8) fills ∙ eighth
+    padded_long = length-tab _ _ ∙ ap (λ (k : ℕ). k / 8) fills ∙ eighth
       where
         eighth : 8 * b / 8 ≡ b
         eighth = omega arith
 
-    whole-block : block b padded 0 ≡ padded
+    whole_block : block b padded 0 ≡ padded
     unfolding block
-    whole-block = ap (λ (k : ℕ). take b (drop k padded)) (mul-zero b) ∙ take_all b padded (omega (arith, padded-long))
+    whole_block = ap (λ (k : ℕ). take b (drop k padded)) (mul-zero b) ∙ take_all b padded (omega (arith, padded_long))
 
-    pub last-compression : (c r : ℕ) (salt v : List ℕ)
-        → iterate c r salt v (block b padded) (λ i. counterAt msize L (q + i)) (blockCount msize L - q) ≡ compress c r (keysFrom L) salt v padded
+    pub last_compression : (c r : ℕ) (salt v : List ℕ)
+        → iterate c r salt v (block b padded) (λ i. counter_at msize L (q + i)) (block_count msize L - q) ≡ compress c r (keys_from L) salt v padded
     unfolding iterate
-    last-compression c r salt v =
-        ap (iterate c r salt v (block b padded) (λ i. counterAt msize L (q + i))) one
-        ∙ ap₂ (λ (k : ℕ) (m : List ℕ). compress c r (keysFrom k) salt v m) counter whole-block
+    last_compression c r salt v =
+        ap (iterate c r salt v (block b padded) (λ i. counter_at msize L (q + i))) one
+        ∙ ap₂ (λ (k : ℕ) (m : List ℕ). compress c r (keys_from k) salt v m) counter whole_block

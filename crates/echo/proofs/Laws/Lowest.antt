@@ -11,13 +11,13 @@ above below ((n when c) ∷ rest) up other a =
     let first = ltb-true below n p.0 in
     ⊎_elim (λ e. omega (arith, e.0)) (λ b. omega (arith, above n rest p.1 other b)) a
 
-lowest-from : (below : ℕ) (l : List Refusal) → ascends below l ≡ true → Lowest (first_of l) l
-lowest-from below [] up = none refl (λ other a. a)
-lowest-from below ((n when true) ∷ rest) up = lowest (inl (refl, refl)) least
+lowest_from : (below : ℕ) (l : List Refusal) → ascends below l ≡ true → Lowest (first_of l) l
+lowest_from below [] up = none refl (λ other a. a)
+lowest_from below ((n when true) ∷ rest) up = lowest (inl (refl, refl)) least
   where
     least : (other : ℕ) → Applies other ((n when true) ∷ rest) → n ≤ other
     least other a = ⊎_elim (λ e. omega (arith, e.0)) (λ b. omega (arith, above n rest (both (ltb below n) _ up).1 other b)) a
-lowest-from below ((n when false) ∷ rest) up = by (lowest-from n rest (both (ltb below n) _ up).1)
+lowest_from below ((n when false) ∷ rest) up = by (lowest_from n rest (both (ltb below n) _ up).1)
   where
     later : (other : ℕ) → Applies other ((n when false) ∷ rest) → Applies other rest
     later other a = ⊎_elim (λ e. absurd (true≢false (sym e.1))) (λ b. b) a
@@ -26,20 +26,20 @@ lowest-from below ((n when false) ∷ rest) up = by (lowest-from n rest (both (l
     by (lowest p f) = lowest (inr p) (λ other a. f other (later other a))
     by (none p f) = none p (λ other a. f other (later other a))
 
-pub lowest-of : (l : List Refusal) → ascends 0 l ≡ true → Lowest (first_of l) l
-lowest-of l up = lowest-from 0 l up
+pub lowest_of : (l : List Refusal) → ascends 0 l ≡ true → Lowest (first_of l) l
+lowest_of l up = lowest_from 0 l up
 
-pub one-lowest : (n m : ℕ) (l : List Refusal) → Lowest n l → Lowest m l → n ≡ m
-one-lowest n m l (lowest p f) (lowest q g) = omega (arith, f m q, g n p)
-one-lowest n m l (lowest p f) (none q g) = absurd (g n p)
-one-lowest n m l (none p f) (lowest q g) = absurd (f m q)
-one-lowest n m l (none p f) (none q g) = omega (arith, p, q)
+pub one_lowest : (n m : ℕ) (l : List Refusal) → Lowest n l → Lowest m l → n ≡ m
+one_lowest n m l (lowest p f) (lowest q g) = omega (arith, f m q, g n p)
+one_lowest n m l (lowest p f) (none q g) = absurd (g n p)
+one_lowest n m l (none p f) (lowest q g) = absurd (f m q)
+one_lowest n m l (none p f) (none q g) = omega (arith, p, q)
 
 -- ---- where a number is given, and where none is
 
-pub none-exactly : (n : ℕ) (c : Bool) (rest : List Refusal) → 0 < n → (first_of ((n when c) ∷ rest) ≡ 0) ↔ ((c ≡ false) × (first_of rest ≡ 0))
-none-exactly n true rest some = (λ e. absurd (omega (arith, e)), λ p. absurd (true≢false p.0))
-none-exactly n false rest some = (λ e. (refl, e), λ p. p.1)
+pub none_exactly : (n : ℕ) (c : Bool) (rest : List Refusal) → 0 < n → (first_of ((n when c) ∷ rest) ≡ 0) ↔ ((c ≡ false) × (first_of rest ≡ 0))
+none_exactly n true rest some = (λ e. absurd (omega (arith, e)), λ p. absurd (true≢false p.0))
+none_exactly n false rest some = (λ e. (refl, e), λ p. p.1)
 
 -- a list that ascends from a number refuses by none that is at most that
 beyond : (below : ℕ) (l : List Refusal) → ascends below l ≡ true → (first_of l ≡ 0) ⊎ (below < first_of l)
@@ -81,6 +81,6 @@ module _ (n : ℕ) (c : Bool) (after : List Refusal) where
   gives below ((m when true) ∷ before) up p = absurd (omega (arith, p.0, ltb-true below m (both (ltb below m) _ up).0))
   gives below ((m when false) ∷ before) up p = gives m before (both (ltb below m) _ up).1 p
 
-pub given-exactly : (before after : List Refusal) (n : ℕ) (c : Bool) → ascends 0 (before ++ (n when c) ∷ after) ≡ true
+pub given_exactly : (before after : List Refusal) (n : ℕ) (c : Bool) → ascends 0 (before ++ (n when c) ∷ after) ≡ true
     → (first_of (before ++ (n when c) ∷ after) ≡ n) ↔ ((first_of before ≡ 0) × (c ≡ true))
-given-exactly before after n c up = (given n c after 0 before up, gives n c after 0 before up)
+given_exactly before after n c up = (given n c after 0 before up, gives n c after 0 before up)

@@ -4,30 +4,30 @@ use native.Mathlib.Nat.{add-mul-div_left, add-mul-mod_self_left, div-div-eq-div-
 use native.Mathlib.Nat.{one-le-pow, pow-le-pow_right}
 use lib.ListN.{get_or-replicate}
 use Rattle.aes_round.specs.Bytes.{Bytes, tab}
-use Rattle.aes_round.proofs.Promises.{agree, bytes-are, every, getD-tab, is-tab, length-tab, lt-or-le, tab-bytes}
-use Rattle.echo.specs.Numbers.{littleEndian}
+use Rattle.aes_round.proofs.Promises.{agree, bytes_are, every, get_or-tab, is_tab, length-tab, lt_or_le, tab_bytes}
+use Rattle.echo.specs.Numbers.{little_endian}
 use Rattle.echo.specs.Numbers.{halves}
-use Rattle.echo.specs.Square.{counterKey, wideKey}
-use Rattle.echo.proofs.Laws.Joined.{first_part, joined_bytes, second-part}
+use Rattle.echo.specs.Square.{counter_key, wide_key}
+use Rattle.echo.proofs.Laws.Joined.{first_part, joined_bytes, second_part}
 
-pub little-bytes : (n x : ℕ) → Bytes n (littleEndian n x)
-unfolding littleEndian
-little-bytes n x = tab-bytes n _ (λ i h. mod-lt _ (lit< tt))
+pub little_bytes : (n x : ℕ) → Bytes n (little_endian n x)
+unfolding little_endian
+little_bytes n x = tab_bytes n _ (λ i h. mod-lt _ (lit< tt))
 
 -- bytes that are written out, by one test
-pub little-are : (n x : ℕ) (l : List ℕ) → length l ≡ n → T (every (λ k. eqb (get_or l k 0) (x / 256 ^ k % 256)) n) → littleEndian n x ≡ l
-unfolding littleEndian
-little-are n x l e t = sym (is-tab n l _ e (agree (λ k. get_or l k 0) (λ k. x / 256 ^ k % 256) n t))
+pub little_are : (n x : ℕ) (l : List ℕ) → length l ≡ n → T (every (λ k. eqb (get_or l k 0) (x / 256 ^ k % 256)) n) → little_endian n x ≡ l
+unfolding little_endian
+little_are n x l e t = sym (is_tab n l _ e (agree (λ k. get_or l k 0) (λ k. x / 256 ^ k % 256) n t))
 
 -- the eight bytes of a number, written out in front of others
-abbrev eightBefore : ℕ → List ℕ → List ℕ
-eightBefore κ l =
+abbrev eight_before : ℕ → List ℕ → List ℕ
+eight_before κ l =
     κ % 0x100 ∷ κ / 0x100 % 0x100 ∷ κ / 0x10000 % 0x100 ∷ κ / 0x1000000 % 0x100
     ∷ κ / 0x100000000 % 0x100 ∷ κ / 0x10000000000 % 0x100 ∷ κ / 0x1000000000000 % 0x100 ∷ κ / 0x100000000000000 % 0x100 ∷ l
 
 module _ (κ : ℕ) where
   eight : List ℕ
-  eight = eightBefore κ []
+  eight = eight_before κ []
 
   eight_are : (i : ℕ) → i < 8 → get_or eight i 0 ≡ κ / 256 ^ i % 256
   unfolding eight
@@ -41,27 +41,27 @@ module _ (κ : ℕ) where
   eight_are (suc (suc (suc (suc (suc (suc (suc zero))))))) h = refl
   eight_are (suc (suc (suc (suc (suc (suc (suc (suc i)))))))) h = absurd (omega arith)
 
-  eight-before : (l : List ℕ) → eightBefore κ l ≡ littleEndian 8 κ ++ l
-  unfolding eight littleEndian
-  eight-before l = ap (λ (e : List ℕ). e ++ l) (is-tab 8 eight _ refl eight_are)
+  eight_before_lem : (l : List ℕ) → eight_before κ l ≡ little_endian 8 κ ++ l
+  unfolding eight little_endian
+  eight_before_lem l = ap (λ (e : List ℕ). e ++ l) (is_tab 8 eight _ refl eight_are)
 
   -- the eight bytes of a counter and eight zeros
-  pub counter-key-is : eightBefore κ (replicate 8 0) ≡ counterKey κ
-  unfolding counterKey
-  counter-key-is = eight-before (replicate 8 0)
+  pub counter_key_is : eight_before κ (replicate 8 0) ≡ counter_key κ
+  unfolding counter_key
+  counter_key_is = eight_before_lem (replicate 8 0)
 
 -- a counter's key is a word
-pub key-bytes : (κ : ℕ) → Bytes 16 (counterKey κ)
-unfolding counterKey
-key-bytes κ = joined_bytes 8 8 _ _ (little-bytes 8 κ) (bytes-are 8 _ refl tt)
+pub key_bytes : (κ : ℕ) → Bytes 16 (counter_key κ)
+unfolding counter_key
+key_bytes κ = joined_bytes 8 8 _ _ (little_bytes 8 κ) (bytes_are 8 _ refl tt)
 
-pub wide-key-bytes : (κ : ℕ) → Bytes 16 (wideKey κ)
-unfolding wideKey
-wide-key-bytes = little-bytes 16
+pub wide_key_bytes : (κ : ℕ) → Bytes 16 (wide_key κ)
+unfolding wide_key
+wide_key_bytes = little_bytes 16
 
 -- the upper part of a number in two, of which the lower is below b
-pub upper-part : (b x y : ℕ) → 0 < b → x < b → (x + b * y) / b ≡ y
-upper-part b x y p h = add-mul-div_left x y p ∙ ap (λ (q : ℕ). q + y) (div-eq_of_lt h) ∙ zero-add y
+pub upper_part : (b x y : ℕ) → 0 < b → x < b → (x + b * y) / b ≡ y
+upper_part b x y p h = add-mul-div_left x y p ∙ ap (λ (q : ℕ). q + y) (div-eq_of_lt h) ∙ zero-add y
 
 -- a number in two parts, the lower one of m bytes
 module _ (m n x y : ℕ) (h : x < 256 ^ m) where
@@ -82,19 +82,19 @@ module _ (m n x y : ℕ) (h : x < 256 ^ m) where
   high_byte i =
       ap (λ (q : ℕ). (x + 256 ^ m * y) / q) (pow-add 256 m i)
       ∙ sym (div-div-eq-div-mul _ (256 ^ m) (256 ^ i))
-      ∙ ap (λ (q : ℕ). q / 256 ^ i) (upper-part (256 ^ m) x y (one-le-pow m 256 (lit< tt)) h)
+      ∙ ap (λ (q : ℕ). q / 256 ^ i) (upper_part (256 ^ m) x y (one-le-pow m 256 (lit< tt)) h)
 
-  pub little-parts : littleEndian (m + n) (x + 256 ^ m * y) ≡ littleEndian m x ++ littleEndian n y
-  unfolding littleEndian
-  little-parts =
-      sym (is-tab (m + n) (lower ++ upper) _ (length-append lower upper ∙ ap₂ (λ (a b : ℕ). a + b) (length-tab m _) (length-tab n _))
-      (λ k l. ⊎_elim (λ (s : k < m). first_part m lower upper (length-tab m _) k s ∙ getD-tab m _ k s ∙ sym (low_byte k s))
+  pub little_parts : little_endian (m + n) (x + 256 ^ m * y) ≡ little_endian m x ++ little_endian n y
+  unfolding little_endian
+  little_parts =
+      sym (is_tab (m + n) (lower ++ upper) _ (length-append lower upper ∙ ap₂ (λ (a b : ℕ). a + b) (length-tab m _) (length-tab n _))
+      (λ k l. ⊎_elim (λ (s : k < m). first_part m lower upper (length-tab m _) k s ∙ get_or-tab m _ k s ∙ sym (low_byte k s))
       (λ (g : m ≤ k).
       ap (λ (i : ℕ). get_or (lower ++ upper) i 0) (sym (back k g))
-      ∙ second-part m lower upper (length-tab m _) (k - m)
-      ∙ getD-tab n _ (k - m) (left k l g)
+      ∙ second_part m lower upper (length-tab m _) (k - m)
+      ∙ get_or-tab n _ (k - m) (left k l g)
       ∙ ap (λ (q : ℕ). q % 256) (sym (high_byte (k - m)) ∙ ap (λ (i : ℕ). (x + 256 ^ m * y) / 256 ^ i) (back k g)))
-      (lt-or-le k m)))
+      (lt_or_le k m)))
     where
       lower : List ℕ
       lower = tab m (λ i. x / 256 ^ i % 256)
@@ -109,53 +109,53 @@ module _ (m n x y : ℕ) (h : x < 256 ^ m) where
       left k l g = omega arith
 
 -- the sixteen bytes of a counter by its halves
-pub wide-key-halves : (low high : ℕ) → low < 2 ^ 64 → wideKey (halves low high) ≡ littleEndian 8 low ++ littleEndian 8 high
-unfolding wideKey
-wide-key-halves = little-parts 8 8
+pub wide_key_halves : (low high : ℕ) → low < 2 ^ 64 → wide_key (halves low high) ≡ little_endian 8 low ++ little_endian 8 high
+unfolding wide_key
+wide_key_halves = little_parts 8 8
 
 -- as the code has them
-pub wide-key-at : (low high κ : ℕ) → halves low high ≡ κ → low < 2 ^ 64 → eightBefore low (eightBefore high []) ≡ wideKey κ
-wide-key-at low high κ at h =
-    eight-before low _
-    ∙ ap (λ (l : List ℕ). littleEndian 8 low ++ l) (eight-before high [] ∙ append-nil _)
-    ∙ sym (wide-key-halves low high h)
-    ∙ ap wideKey at
+pub wide_key_at : (low high κ : ℕ) → halves low high ≡ κ → low < 2 ^ 64 → eight_before low (eight_before high []) ≡ wide_key κ
+wide_key_at low high κ at h =
+    eight_before_lem low _
+    ∙ ap (λ (l : List ℕ). little_endian 8 low ++ l) (eight_before_lem high [] ∙ append-nil _)
+    ∙ sym (wide_key_halves low high h)
+    ∙ ap wide_key at
 
 -- sixteen bytes of a 64-bit number: eight, and eight zeros
-pub sixteen-of-eight : (x : ℕ) → x < 2 ^ 64 → littleEndian 16 x ≡ counterKey x
-unfolding counterKey littleEndian
-sixteen-of-eight x h = ap (littleEndian 16) (alone x) ∙ little-parts 8 8 x 0 h ∙ ap (λ (l : List ℕ). littleEndian 8 x ++ l) zeros
+pub sixteen_of_eight : (x : ℕ) → x < 2 ^ 64 → little_endian 16 x ≡ counter_key x
+unfolding counter_key little_endian
+sixteen_of_eight x h = ap (little_endian 16) (alone x) ∙ little_parts 8 8 x 0 h ∙ ap (λ (l : List ℕ). little_endian 8 x ++ l) zeros
   where
     alone : (x : ℕ) → x ≡ x + 256 ^ 8 * 0
     alone x = omega arith
 
-    zeros : littleEndian 8 0 ≡ replicate 8 0
+    zeros : little_endian 8 0 ≡ replicate 8 0
     zeros =
-        sym (is-tab 8 (replicate 8 0) _ refl
+        sym (is_tab 8 (replicate 8 0) _ refl
         (λ i h. get_or-replicate 8 i 0 0 h ∙ sym (ap (λ (q : ℕ). q % 256) (div-eq_of_lt (one-le-pow i 256 (lit< tt))))))
 
 module _ (bits count : ℕ) (h : count < 2 ^ 64) where
-  two-are : (i : ℕ) → i < 2 → get_or (bits % 0x100 ∷ bits / 0x100 % 0x100 ∷ []) i 0 ≡ bits / 256 ^ i % 256
-  two-are zero l = ap (λ (x : ℕ). x % 256) (sym (div-one bits))
-  two-are (suc zero) l = refl
-  two-are (suc (suc i)) l = absurd (omega arith)
+  two_are : (i : ℕ) → i < 2 → get_or (bits % 0x100 ∷ bits / 0x100 % 0x100 ∷ []) i 0 ≡ bits / 256 ^ i % 256
+  two_are zero l = ap (λ (x : ℕ). x % 256) (sym (div-one bits))
+  two_are (suc zero) l = refl
+  two_are (suc (suc i)) l = absurd (omega arith)
 
-  two : bits % 0x100 ∷ bits / 0x100 % 0x100 ∷ [] ≡ littleEndian 2 bits
-  unfolding littleEndian
-  two = is-tab 2 (bits % 0x100 ∷ bits / 0x100 % 0x100 ∷ []) _ refl two-are
+  two : bits % 0x100 ∷ bits / 0x100 % 0x100 ∷ [] ≡ little_endian 2 bits
+  unfolding little_endian
+  two = is_tab 2 (bits % 0x100 ∷ bits / 0x100 % 0x100 ∷ []) _ refl two_are
 
   -- the end of the padding, written out
-  pub lengths-are : bits % 0x100 ∷ bits / 0x100 % 0x100 ∷ eightBefore count (replicate 8 0) ≡ littleEndian 2 bits ++ littleEndian 16 count
-  lengths-are =
-      ap (λ (l : List ℕ). bits % 0x100 ∷ bits / 0x100 % 0x100 ∷ l) (counter-key-is count ∙ sym (sixteen-of-eight count h))
-      ∙ ap (λ (l : List ℕ). l ++ littleEndian 16 count) two
+  pub lengths_are : bits % 0x100 ∷ bits / 0x100 % 0x100 ∷ eight_before count (replicate 8 0) ≡ little_endian 2 bits ++ little_endian 16 count
+  lengths_are =
+      ap (λ (l : List ℕ). bits % 0x100 ∷ bits / 0x100 % 0x100 ∷ l) (counter_key_is count ∙ sym (sixteen_of_eight count h))
+      ∙ ap (λ (l : List ℕ). l ++ little_endian 16 count) two
 
 -- the bytes of a digest length: two, and zeros
-pub length-byte-low : (h : ℕ) → h % 256 ≡ h / 256 ^ 0 % 256
-length-byte-low h = ap (λ (x : ℕ). x % 256) (sym (div-one h))
+pub length_byte_low : (h : ℕ) → h % 256 ≡ h / 256 ^ 0 % 256
+length_byte_low h = ap (λ (x : ℕ). x % 256) (sym (div-one h))
 
-pub length-byte-none : (h i : ℕ) → h ≤ 512 → (i ≡ 0 → ⊥) → (i ≡ 1 → ⊥) → 0 ≡ h / 256 ^ i % 256
-length-byte-none h i l a b =
+pub length_byte_none : (h i : ℕ) → h ≤ 512 → (i ≡ 0 → ⊥) → (i ≡ 1 → ⊥) → 0 ≡ h / 256 ^ i % 256
+length_byte_none h i l a b =
     sym (ap (λ (q : ℕ). q % 256) (div-eq_of_lt (lt_of_lt_of_le (less l) (pow-le-pow_right {n = 256} (lit< tt) (two a b)))))
   where
     two : (i ≡ 0 → ⊥) → (i ≡ 1 → ⊥) → 2 ≤ i

@@ -1,16 +1,16 @@
 -- Bytes put into a lent slice: what a loop that stores them does turn by turn, and what its result is. Assumes nothing.
 use Rattle.std.proofs.Common.{◌≡◌, ℕ, ◌+◌, ◌-◌, ◌<◌, ◌≤◌, List, ◌++◌, length, get_or, take, drop, set, replicate, sym, refl, ap, ◌∙◌, subst, ⊎_elim, not-suc-le-zero, zero-add, arith, length-append, length-drop, length-set, length-take-le, get_or-drop, get_or-set_other, get_or-take, get_or-set_same, below_more}
 use lib.ListN.{length-replicate}
-use Rattle.aes_round.proofs.Promises.{Filled, lt-or-le, same-list}
+use Rattle.aes_round.proofs.Promises.{Filled, lt_or_le, same_list}
 use Rattle.echo.specs.Placed.{Placed}
-use Rattle.echo.proofs.Laws.Joined.{first_part, second-part}
+use Rattle.echo.proofs.Laws.Joined.{first_part, second_part}
 
 module _ (l : List ℕ) (at : ℕ) (w : List ℕ) where
   pub place_none : Placed l at w 0 l
   place_none = record { long = refl; before = λ k h. refl; inside = λ k h. absurd (not-suc-le-zero h); behind = λ k h. refl }
 
-  pub place-more : (n : ℕ) (r : List ℕ) (v : ℕ) → Placed l at w n r → at + n < length l → v ≡ get_or w n 0 → Placed l at w (n + 1) (set r (at + n) v)
-  place-more n r v P h e = record {
+  pub place_more : (n : ℕ) (r : List ℕ) (v : ℕ) → Placed l at w n r → at + n < length l → v ≡ get_or w n 0 → Placed l at w (n + 1) (set r (at + n) v)
+  place_more n r v P h e = record {
     long = length-set r (at + n) v ∙ P.long;
     before = λ k lt. get_or-set_other r (at + n) k v 0 (λ q. omega arith) ∙ P.before k lt;
     inside = below_more (λ k. get_or (set r (at + n) v) (at + k) 0 ≡ get_or w k 0) n
@@ -19,14 +19,14 @@ module _ (l : List ℕ) (at : ℕ) (w : List ℕ) where
     behind = λ k le. get_or-set_other r (at + n) k v 0 (λ q. omega arith) ∙ P.behind k (omega arith);
   }
 
-  pub place-all : (i n m : ℕ) (r : List ℕ) → Placed l at w i r → i ≤ n → n ≤ i → n ≡ m → Placed l at w m r
-  place-all i n m r P most least e = let all : i ≡ m = omega arith in subst (λ (k : ℕ). Placed l at w k r) all P
+  pub place_all : (i n m : ℕ) (r : List ℕ) → Placed l at w i r → i ≤ n → n ≤ i → n ≡ m → Placed l at w m r
+  place_all i n m r P most least e = let all : i ≡ m = omega arith in subst (λ (k : ℕ). Placed l at w k r) all P
 
 -- bytes placed at the front of room
-pub placed-front : (room w r : List ℕ) (n : ℕ) → length w ≡ n → n ≤ length room → Placed room 0 w n r → r ≡ w ++ drop n room
-placed-front room w r n lw l P =
-    same-list (length room) r (w ++ drop n room) P.long (length-append w (drop n room) ∙ omega (arith, lw, length-drop n room))
-    (λ k h. ⊎_elim (front k) (rest k) (lt-or-le k n))
+pub placed_front : (room w r : List ℕ) (n : ℕ) → length w ≡ n → n ≤ length room → Placed room 0 w n r → r ≡ w ++ drop n room
+placed_front room w r n lw l P =
+    same_list (length room) r (w ++ drop n room) P.long (length-append w (drop n room) ∙ omega (arith, lw, length-drop n room))
+    (λ k h. ⊎_elim (front k) (rest k) (lt_or_le k n))
   where
     front : (k : ℕ) → k < n → get_or r k 0 ≡ get_or (w ++ drop n room) k 0
     front k lt = ap (λ (i : ℕ). get_or r i 0) (sym (zero-add k)) ∙ P.inside k lt ∙ sym (first_part n w (drop n room) lw k lt)
@@ -37,18 +37,18 @@ placed-front room w r n lw l P =
     rest : (k : ℕ) → n ≤ k → get_or r k 0 ≡ get_or (w ++ drop n room) k 0
     rest k g =
         P.behind k (omega arith) ∙ ap (λ (i : ℕ). get_or room i 0) (sym (on k g)) ∙ sym (get_or-drop n room (k - n) 0)
-        ∙ sym (ap (λ (i : ℕ). get_or (w ++ drop n room) i 0) (sym (on k g)) ∙ second-part n w (drop n room) lw (k - n))
+        ∙ sym (ap (λ (i : ℕ). get_or (w ++ drop n room) i 0) (sym (on k g)) ∙ second_part n w (drop n room) lw (k - n))
 
 -- a loop that fills a list from the front, n bytes at a turn
-pub fill-part : (N : ℕ) (f : ℕ → ℕ) (l : List ℕ) (i : ℕ) (r w r' : List ℕ) (n : ℕ) → Filled N f l i r → Placed r i w n r' → i + n ≤ N
+pub fill_part : (N : ℕ) (f : ℕ → ℕ) (l : List ℕ) (i : ℕ) (r w r' : List ℕ) (n : ℕ) → Filled N f l i r → Placed r i w n r' → i + n ≤ N
     → ((k : ℕ) → k < n → get_or w k 0 ≡ f (i + k)) → Filled N f l (i + n) r'
-fill-part N f l i r w r' n F P h e = record {
+fill_part N f l i r w r' n F P h e = record {
   long = P.long ∙ F.long;
   in_reach = h;
   done = λ k lt.
       ⊎_elim (λ (b : k < i). P.before k b ∙ F.done k b)
       (λ (g : i ≤ k). ap (λ (m : ℕ). get_or r' m 0) (sym (back k g)) ∙ P.inside (k - i) (left k g lt) ∙ e (k - i) (left k g lt) ∙ ap f (back k g))
-      (lt-or-le k i);
+      (lt_or_le k i);
   rest = λ k le. P.behind k le ∙ F.rest k (omega arith);
 }
   where
@@ -63,11 +63,11 @@ pub part_placed : (l w : List ℕ) (at n : ℕ) → at + n ≤ length l → leng
 part_placed l w at n h e = record {
   long = whole;
   before = λ k lt. first_part at (take at l) rest short k lt ∙ get_or-take at l k 0 lt;
-  inside = λ k lt. second-part at (take at l) rest short k ∙ first_part n w (drop n (drop at l)) e k lt;
+  inside = λ k lt. second_part at (take at l) rest short k ∙ first_part n w (drop n (drop at l)) e k lt;
   behind = λ k le.
       ap (λ (i : ℕ). get_or (take at l ++ rest) i 0) (sym (back k le))
-      ∙ second-part at (take at l) rest short (n + (k - (at + n)))
-      ∙ second-part n w (drop n (drop at l)) e (k - (at + n))
+      ∙ second_part at (take at l) rest short (n + (k - (at + n)))
+      ∙ second_part n w (drop n (drop at l)) e (k - (at + n))
       ∙ get_or-drop n (drop at l) (k - (at + n)) 0
       ∙ get_or-drop at l (n + (k - (at + n))) 0
       ∙ ap (λ (i : ℕ). get_or l i 0) (back k le);
@@ -92,5 +92,5 @@ part_placed l w at n h e = record {
 pub cleared : (w z : List ℕ) (i x m : ℕ) → z ≡ replicate (length (set w i x)) 0 → length w ≡ m → z ≡ replicate m 0
 cleared w z i x m e l = e ∙ ap (λ (n : ℕ). replicate n 0) (length-set w i x ∙ l)
 
-pub length-cleared : (w z : List ℕ) (i x m : ℕ) → z ≡ replicate (length (set w i x)) 0 → length w ≡ m → length z ≡ m
-length-cleared w z i x m e l = ap length (cleared w z i x m e l) ∙ length-replicate m 0
+pub length_cleared : (w z : List ℕ) (i x m : ℕ) → z ≡ replicate (length (set w i x)) 0 → length w ≡ m → length z ≡ m
+length_cleared w z i x m e l = ap length (cleared w z i x m e l) ∙ length-replicate m 0

@@ -2,12 +2,12 @@
 use Rattle.std.proofs.Common.{◌≡◌, ℕ, ◌+◌, ◌-◌, ◌*◌, ◌/◌, ◌%◌, ◌<◌, ◌≤◌, ◌≢◌, List, length, get_or, set, sym, refl, ap, ◌∙◌, subst, ⊎_elim, arith, below_none, below_more}
 use Rattle.aes_round.specs.Array.{entry}
 use Rattle.aes_round.specs.Bytes.{tab}
-use Rattle.aes_round.proofs.Promises.{agree, entry-is, is-array, is-tab, length_shift, length-shift-back, length-tab, lt-or-le, tab-ext}
+use Rattle.aes_round.proofs.Promises.{agree, entry_is, is_array, is_tab, length_shift, length_shift_back, length-tab, lt_or_le, tab_ext}
 use Rattle.echo.specs.Placed.{Placed}
-use Rattle.echo.specs.Square.{bigShiftRows, bigShiftRowsBack, word}
-use Rattle.echo.proofs.Laws.Placed.{place-more}
-use Rattle.echo.proofs.Laws.Square.{getD-word}
-use Rattle.echo.proofs.Laws.Words.{shifted-back-word, shifted-word, word-is}
+use Rattle.echo.specs.Square.{big_shift_rows, big_shift_rows_back, word}
+use Rattle.echo.proofs.Laws.Placed.{place_more}
+use Rattle.echo.proofs.Laws.Square.{get_or-word}
+use Rattle.echo.proofs.Laws.Words.{shifted_back_word, shifted_word, word_is}
 
 -- ---- squares by their words
 
@@ -15,39 +15,39 @@ length-word : (s : List ℕ) (i : ℕ) → length (word s i) ≡ 16
 unfolding word
 length-word s i = length-tab 16 _
 
-same-words : (s t : List ℕ) → length s ≡ 256 → length t ≡ 256 → ((e : ℕ) → e < 16 → word s e ≡ word t e) → s ≡ t
-same-words s t ls lt words =
-    is-array 16 s (entry 16 t) ls
-    (λ e b he hb. sym (getD-word s e b hb) ∙ ap (λ (w : List ℕ). get_or w b 0) (words e he) ∙ getD-word t e b hb)
-    ∙ sym (is-array 16 t (entry 16 t) lt (λ e b he hb. refl))
+same_words : (s t : List ℕ) → length s ≡ 256 → length t ≡ 256 → ((e : ℕ) → e < 16 → word s e ≡ word t e) → s ≡ t
+same_words s t ls lt words =
+    is_array 16 s (entry 16 t) ls
+    (λ e b he hb. sym (get_or-word s e b hb) ∙ ap (λ (w : List ℕ). get_or w b 0) (words e he) ∙ get_or-word t e b hb)
+    ∙ sym (is_array 16 t (entry 16 t) lt (λ e b he hb. refl))
 
-length-forth : (s : List ℕ) → length (bigShiftRows s) ≡ 256
-unfolding bigShiftRows
+length-forth : (s : List ℕ) → length (big_shift_rows s) ≡ 256
+unfolding big_shift_rows
 length-forth = length_shift 16
 
-length_back : (s : List ℕ) → length (bigShiftRowsBack s) ≡ 256
-unfolding bigShiftRowsBack
-length_back = length-shift-back 16
+length_back : (s : List ℕ) → length (big_shift_rows_back s) ≡ 256
+unfolding big_shift_rows_back
+length_back = length_shift_back 16
 
 -- ---- a word that becomes the next one of its row, byte by byte
 
-pub pull-more : (l r : List ℕ) (e k : ℕ) → Placed l (16 * e) (word l (e + 4)) k r → length l ≡ 256 → e < 12 → k < 16
+pub pull_more : (l r : List ℕ) (e k : ℕ) → Placed l (16 * e) (word l (e + 4)) k r → length l ≡ 256 → e < 12 → k < 16
     → Placed l (16 * e) (word l (e + 4)) (k + 1) (set r (16 * e + k) (get_or r (16 * (e + 4) + k) 0))
-pull-more l r e k P long low h =
-    place-more l (16 * e) (word l (e + 4)) k r _ P (omega arith)
-    (P.behind (16 * (e + 4) + k) (omega arith) ∙ sym (entry-is 16 l (e + 4) k) ∙ sym (getD-word l (e + 4) k h))
+pull_more l r e k P long low h =
+    place_more l (16 * e) (word l (e + 4)) k r _ P (omega arith)
+    (P.behind (16 * (e + 4) + k) (omega arith) ∙ sym (entry_is 16 l (e + 4) k) ∙ sym (get_or-word l (e + 4) k h))
 
 -- ---- the words of a square into which a word was put
 
 put_word : (l w r : List ℕ) (i : ℕ) → Placed l (16 * i) w 16 r → length w ≡ 16 → word r i ≡ w
-put_word l w r i P e = word-is r i ∙ sym (is-tab 16 w _ e (λ b h. sym (P.inside b h)))
+put_word l w r i P e = word_is r i ∙ sym (is_tab 16 w _ e (λ b h. sym (P.inside b h)))
 
 other_word : (l w r : List ℕ) (i e : ℕ) → Placed l (16 * i) w 16 r → e ≢ i → word r e ≡ word l e
 other_word l w r i e P h =
-    word-is r e
-    ∙ tab-ext 16 _ _ (λ b hb.
-    ⊎_elim (λ (lt : e < i). P.before (16 * e + b) (omega arith)) (λ (le : i ≤ e). P.behind (16 * e + b) (omega (arith, h))) (lt-or-le e i))
-    ∙ sym (word-is l e)
+    word_is r e
+    ∙ tab_ext 16 _ _ (λ b hb.
+    ⊎_elim (λ (lt : e < i). P.before (16 * e + b) (omega arith)) (λ (le : i ≤ e). P.behind (16 * e + b) (omega (arith, h))) (lt_or_le e i))
+    ∙ sym (word_is l e)
 
 -- ---- one place: the first word was kept aside, the others moved up, and the first came back as the last
 
@@ -57,8 +57,8 @@ pub record Up (i : ℕ) (l : List ℕ) (j : ℕ) (s : List ℕ) : Type 0 where
   pub still : (k : ℕ) → j ≤ k → word s (i + 4 * k) ≡ word l (i + 4 * k)
   pub others : (e : ℕ) → e % 4 ≢ i → word s e ≡ word l e
 
-pub none-up : (i : ℕ) (l : List ℕ) → Up i l 0 l
-none-up i l = record { up = below_none _; still = λ k h. refl; others = λ e ne. refl }
+pub none_up : (i : ℕ) (l : List ℕ) → Up i l 0 l
+none_up i l = record { up = below_none _; still = λ k h. refl; others = λ e ne. refl }
 
 pub next_up : (i j : ℕ) (l s t : List ℕ) → Up i l j s → Placed s (16 * (i + 4 * j)) (word s (i + 4 * j + 4)) 16 t → i < 4 → Up i l (j + 1) t
 next_up i j l s t U P low = record {
@@ -77,8 +77,8 @@ module _ (i n : ℕ) (l s spare t : List ℕ) (P : Placed s (16 * (i + 12)) spar
   put : Placed s (16 * (i + 12)) spare 16 t
   put = subst (λ (k : ℕ). Placed s (16 * (i + 12)) spare k t) (ap length kept ∙ length-tab 16 _) P
 
-  pub once-along : (j : ℕ) → j < 4 → word t (i + 4 * j) ≡ word l (i + 4 * ((j + 1) % 4))
-  once-along j h = ⊎_elim came_up came-back (lt-or-le j 3)
+  pub once_along : (j : ℕ) → j < 4 → word t (i + 4 * j) ≡ word l (i + 4 * ((j + 1) % 4))
+  once_along j h = ⊎_elim came_up came_back (lt_or_le j 3)
     where
       came_up : j < 3 → word t (i + 4 * j) ≡ word l (i + 4 * ((j + 1) % 4))
       came_up lt =
@@ -86,16 +86,16 @@ module _ (i n : ℕ) (l s spare t : List ℕ) (P : Placed s (16 * (i + 12)) spar
           ∙ U.up j (omega arith)
           ∙ ap (λ (k : ℕ). word l (i + 4 * k)) (let next : j + 1 ≡ (j + 1) % 4 = omega arith in next)
 
-      came-back : 3 ≤ j → word t (i + 4 * j) ≡ word l (i + 4 * ((j + 1) % 4))
-      came-back le =
+      came_back : 3 ≤ j → word t (i + 4 * j) ≡ word l (i + 4 * ((j + 1) % 4))
+      came_back le =
           ap (word t) (let last : i + 4 * j ≡ i + 12 = omega arith in last)
           ∙ put_word s spare t (i + 12) put (ap length kept ∙ length-tab 16 _)
           ∙ kept
-          ∙ sym (word-is l i)
+          ∙ sym (word_is l i)
           ∙ ap (word l) (let first : i ≡ i + 4 * ((j + 1) % 4) = omega arith in first)
 
-  pub once-others : (e : ℕ) → e % 4 ≢ i → word t e ≡ word l e
-  once-others e ne = other_word s spare t (i + 12) e put (λ q. ne (omega arith)) ∙ U.others e ne
+  pub once_others : (e : ℕ) → e % 4 ≢ i → word t e ≡ word l e
+  once_others e ne = other_word s spare t (i + 12) e put (λ q. ne (omega arith)) ∙ U.others e ne
 
 -- ---- the row i turned by n places: t is what s became
 
@@ -103,15 +103,15 @@ pub record Turned (i n : ℕ) (s t : List ℕ) : Type 0 where
   pub along : (j : ℕ) → j < 4 → word t (i + 4 * j) ≡ word s (i + 4 * ((j + n) % 4))
   pub others : (e : ℕ) → e % 4 ≢ i → word t e ≡ word s e
 
-pub not-turned : (i : ℕ) (s : List ℕ) → Turned i 0 s s
-not-turned i s = record { along = λ j h. ap (λ (m : ℕ). word s (i + 4 * m)) (same j h); others = λ e ne. refl }
+pub not_turned : (i : ℕ) (s : List ℕ) → Turned i 0 s s
+not_turned i s = record { along = λ j h. ap (λ (m : ℕ). word s (i + 4 * m)) (same j h); others = λ e ne. refl }
   where
     same : (j : ℕ) → j < 4 → j ≡ (j + 0) % 4
     same j h = omega arith
 
-pub next-turn : (i n : ℕ) (l s t : List ℕ) → ((j : ℕ) → j < 4 → word t (i + 4 * j) ≡ word s (i + 4 * ((j + 1) % 4)))
+pub next_turn : (i n : ℕ) (l s t : List ℕ) → ((j : ℕ) → j < 4 → word t (i + 4 * j) ≡ word s (i + 4 * ((j + 1) % 4)))
     → ((e : ℕ) → e % 4 ≢ i → word t e ≡ word s e) → Turned i n l s → i < 4 → Turned i (n + 1) l t
-next-turn i n l s t along others T low = record {
+next_turn i n l s t along others T low = record {
   along = λ j h. along j h ∙ T.along ((j + 1) % 4) (omega arith) ∙ ap (λ (k : ℕ). word l (i + 4 * k)) (sum j);
   others = λ e ne. others e ne ∙ T.others e ne;
 }
@@ -120,8 +120,8 @@ next-turn i n l s t along others T low = record {
     sum j = omega arith
 
 module _ (i n places : ℕ) (s t : List ℕ) (T : Turned i n s t) (most : n ≤ places) (least : places ≤ n) where
-  pub all-along : (j : ℕ) → j < 4 → word t (i + 4 * j) ≡ word s (i + 4 * ((j + places) % 4))
-  all-along j h = T.along j h ∙ ap (λ (k : ℕ). word s (i + 4 * ((j + k) % 4))) (let all : n ≡ places = omega arith in all)
+  pub all_along : (j : ℕ) → j < 4 → word t (i + 4 * j) ≡ word s (i + 4 * ((j + places) % 4))
+  all_along j h = T.along j h ∙ ap (λ (k : ℕ). word s (i + 4 * ((j + k) % 4))) (let all : n ≡ places = omega arith in all)
 
 pub all_others : (i n : ℕ) (s t : List ℕ) → Turned i n s t → (e : ℕ) → e % 4 ≢ i → word t e ≡ word s e
 all_others i n s t T = T.others
@@ -139,8 +139,8 @@ module _ (places : ℕ → ℕ) where
     pub rest : (e : ℕ) → e < 16 → i ≤ e % 4 → word s e ≡ word l e
 
   -- the row 0 stays where it is
-  pub first-row : places 0 % 4 ≡ 0 → (l : List ℕ) → Rows l 1 l
-  first-row stays l = record { done = λ e h lt. ap (word l) (whole e h lt); rest = λ e h le. refl }
+  pub first_row : places 0 % 4 ≡ 0 → (l : List ℕ) → Rows l 1 l
+  first_row stays l = record { done = λ e h lt. ap (word l) (whole e h lt); rest = λ e h le. refl }
     where
       whole : (e : ℕ) → e < 16 → e % 4 < 1 → e ≡ from e
       whole e h lt =
@@ -150,7 +150,7 @@ module _ (places : ℕ → ℕ) where
   pub next_row : (l s t : List ℕ) (i : ℕ) → Rows l i s → ((j : ℕ) → j < 4 → word t (i + 4 * j) ≡ word s (i + 4 * ((j + places i) % 4)))
       → ((e : ℕ) → e % 4 ≢ i → word t e ≡ word s e) → i < 4 → Rows l (i + 1) t
   next_row l s t i R along others low = record {
-    done = λ e h lt. ⊎_elim (before e h) (now e h lt) (lt-or-le (e % 4) i);
+    done = λ e h lt. ⊎_elim (before e h) (now e h lt) (lt_or_le (e % 4) i);
     rest = λ e h le. others e (λ q. omega arith) ∙ R.rest e h (omega arith);
   }
     where
@@ -165,8 +165,8 @@ module _ (places : ℕ → ℕ) where
           ∙ ap (λ (k : ℕ). word l (k + 4 * ((e / 4 + places k) % 4))) (let row : i ≡ e % 4 = omega arith in row)
 
   -- t is known by where its words come from
-  all-rows : (l s t : List ℕ) (i : ℕ) → ((e : ℕ) → e < 16 → word t e ≡ word l (from e)) → length t ≡ 256 → Rows l i s → 4 ≤ i → length s ≡ 256 → s ≡ t
-  all-rows l s t i comes lt R all ls = same-words s t ls lt (λ e h. R.done e h (omega arith) ∙ sym (comes e h))
+  all_rows : (l s t : List ℕ) (i : ℕ) → ((e : ℕ) → e < 16 → word t e ≡ word l (from e)) → length t ≡ 256 → Rows l i s → 4 ≤ i → length s ≡ 256 → s ≡ t
+  all_rows l s t i comes lt R all ls = same_words s t ls lt (λ e h. R.done e h (omega arith) ∙ sym (comes e h))
 
 -- to the left, the row i by i places and, on the way back, by 4 - i
 abbrev pub forth : ℕ → ℕ
@@ -176,8 +176,8 @@ abbrev pub back : ℕ → ℕ
 back i = 4 - i
 
 module _ (l s : List ℕ) (i : ℕ) where
-  pub rows-forth : Rows forth l i s → 4 ≤ i → length s ≡ 256 → s ≡ bigShiftRows l
-  rows-forth = all-rows forth l s _ i (λ e h. shifted-word l e h ∙ ap (word l) (agree (λ e. 5 * e % 16) (from forth) 16 tt e h)) (length-forth l)
+  pub rows_forth : Rows forth l i s → 4 ≤ i → length s ≡ 256 → s ≡ big_shift_rows l
+  rows_forth = all_rows forth l s _ i (λ e h. shifted_word l e h ∙ ap (word l) (agree (λ e. 5 * e % 16) (from forth) 16 tt e h)) (length-forth l)
 
-  pub rows_back : Rows back l i s → 4 ≤ i → length s ≡ 256 → s ≡ bigShiftRowsBack l
-  rows_back = all-rows back l s _ i (λ e h. shifted-back-word l e h ∙ ap (word l) (agree (λ e. 13 * e % 16) (from back) 16 tt e h)) (length_back l)
+  pub rows_back : Rows back l i s → 4 ≤ i → length s ≡ 256 → s ≡ big_shift_rows_back l
+  rows_back = all_rows back l s _ i (λ e h. shifted_back_word l e h ∙ ap (word l) (agree (λ e. 13 * e % 16) (from back) 16 tt e h)) (length_back l)

@@ -8,126 +8,126 @@ use Rattle.echo.specs.declared.session.Answer.{Answer}
 use Rattle.echo.specs.declared.session.Session.{Session}
 use Rattle.echo.specs.Bits.{bits_of}
 use Rattle.echo.specs.Digest.{initial}
-use Rattle.echo.specs.Families.{blockSize, chainingSize}
+use Rattle.echo.specs.Families.{block_size, chaining_size}
 use Rattle.echo.specs.Placed.{Placed}
 use Rattle.echo.specs.Refusals.{◌when◌, unless}
-use Rattle.echo.specs.Session.{addAnswer, addBits, addBitsAnswer, addBitsRefusal, admitted, allZero, bitLimit, blank, finalChaining, isSession, limit}
-use Rattle.echo.specs.Session.{made, openAnswer, openRefusal, opened, readAnswer, readLeaves, readRefusal, sessionDigest}
+use Rattle.echo.specs.Session.{add_answer, add_bits, add_bits_answer, add_bits_refusal, admitted, all_zero, bit_limit, blank, final_chaining, is_session, limit}
+use Rattle.echo.specs.Session.{made, open_answer, open_refusal, opened, read_answer, read_leaves, read_refusal, session_digest}
 use Rattle.echo.proofs.Laws.Bits.{Sized}
-use Rattle.echo.proofs.Laws.Families.{digest-in-chaining, sizes}
-use Rattle.echo.proofs.Laws.Placed.{placed-front}
+use Rattle.echo.proofs.Laws.Families.{digest_in_chaining, sizes}
+use Rattle.echo.proofs.Laws.Placed.{placed_front}
 use Rattle.echo.proofs.Laws.Refusals.{none_first}
-use Rattle.echo.proofs.Laws.Words.{sixteen-are}
-use Rattle.echo.proofs.Laws.Admitted.{admitted-means}
+use Rattle.echo.proofs.Laws.Words.{sixteen_are}
+use Rattle.echo.proofs.Laws.Admitted.{admitted_means}
 use Rattle.echo.proofs.Laws.Zeros.{both}
 
 -- ---- which records are sessions: the answers of is_session, by the tests a, w and v that the code made
 
 module _ (s : Session) (a : Bool) (e : a ≡ admitted s.bits) where
-  pub is-not-admitted : not a ≡ true → false ≡ isSession s
-  unfolding isSession
-  is-not-admitted fails = rw (← e, not-true a fails)
+  pub is_not_admitted : not a ≡ true → false ≡ is_session s
+  unfolding is_session
+  is_not_admitted fails = rw (← e, not-true a fails)
 
   module _ (holds : not a ≡ false) where
-    pub is-too-long : bitLimit < s.taken → false ≡ isSession s
-    unfolding isSession
-    is-too-long n = rw (← e, not-false a holds, lt-leb s.taken bitLimit n)
+    pub is_too_long : bit_limit < s.taken → false ≡ is_session s
+    unfolding is_session
+    is_too_long n = rw (← e, not-false a holds, lt-leb s.taken bit_limit n)
 
-    module _ (n : s.taken ≤ bitLimit) (b : ℕ) (size : b ≡ blockSize s.mode s.bits) (w : Bool)
-        (z : w ≡ allZero (drop (s.taken % (8 * b)) (bits_of s.waiting))) where
-      rest-is : w ≡ allZero (drop (s.taken % (8 * blockSize s.mode s.bits)) (bits_of s.waiting))
-      rest-is = z ∙ ap (λ (x : ℕ). allZero (drop (s.taken % (8 * x)) (bits_of s.waiting))) size
+    module _ (n : s.taken ≤ bit_limit) (b : ℕ) (size : b ≡ block_size s.mode s.bits) (w : Bool)
+        (z : w ≡ all_zero (drop (s.taken % (8 * b)) (bits_of s.waiting))) where
+      rest_is : w ≡ all_zero (drop (s.taken % (8 * block_size s.mode s.bits)) (bits_of s.waiting))
+      rest_is = z ∙ ap (λ (x : ℕ). all_zero (drop (s.taken % (8 * x)) (bits_of s.waiting))) size
 
-      pub is-not-clear : not w ≡ true → false ≡ isSession s
-      unfolding isSession
-      is-not-clear fails = rw (← e, not-false a holds, le-leb s.taken bitLimit n, ← rest-is, not-true w fails)
+      pub is_not_clear : not w ≡ true → false ≡ is_session s
+      unfolding is_session
+      is_not_clear fails = rw (← e, not-false a holds, le-leb s.taken bit_limit n, ← rest_is, not-true w fails)
 
-      pub is-clear : not w ≡ false → (c : ℕ) (v : Bool) → v ≡ allZero (drop c s.chaining) → c ≡ chainingSize s.mode s.bits → v ≡ isSession s
-      unfolding isSession
-      is-clear clear c v q p =
-          rw (← e, not-false a holds, le-leb s.taken bitLimit n, ← rest-is, not-false w clear)
-          (q ∙ ap (λ (x : ℕ). allZero (drop x s.chaining)) p)
+      pub is_clear : not w ≡ false → (c : ℕ) (v : Bool) → v ≡ all_zero (drop c s.chaining) → c ≡ chaining_size s.mode s.bits → v ≡ is_session s
+      unfolding is_session
+      is_clear clear c v q p =
+          rw (← e, not-false a holds, le-leb s.taken bit_limit n, ← rest_is, not-false w clear)
+          (q ∙ ap (λ (x : ℕ). all_zero (drop x s.chaining)) p)
 
 pub record SessionFits (s : Session) : Type 0 where
   pub admits : admitted s.bits ≡ true
-  pub taken-fits : s.taken ≤ bitLimit
-  pub waiting-zero : allZero (drop (s.taken % (8 * blockSize s.mode s.bits)) (bits_of s.waiting)) ≡ true
-  pub chaining-zero : allZero (drop (chainingSize s.mode s.bits) s.chaining) ≡ true
+  pub taken_fits : s.taken ≤ bit_limit
+  pub waiting_zero : all_zero (drop (s.taken % (8 * block_size s.mode s.bits)) (bits_of s.waiting)) ≡ true
+  pub chaining_zero : all_zero (drop (chaining_size s.mode s.bits) s.chaining) ≡ true
 
-pub session-fits : (s : Session) → isSession s ≡ true → SessionFits s
-unfolding isSession
-session-fits s e =
+pub session_fits : (s : Session) → is_session s ≡ true → SessionFits s
+unfolding is_session
+session_fits s e =
     let p = both (admitted s.bits) _ e in
-    let q = both (leb s.taken bitLimit) _ p.1 in
-    let r = both (allZero (drop (s.taken % (8 * blockSize s.mode s.bits)) (bits_of s.waiting))) _ q.1 in
-    record { admits = p.0; taken-fits = leb-true s.taken bitLimit q.0; waiting-zero = r.0; chaining-zero = r.1 }
+    let q = both (leb s.taken bit_limit) _ p.1 in
+    let r = both (all_zero (drop (s.taken % (8 * block_size s.mode s.bits)) (bits_of s.waiting))) _ q.1 in
+    record { admits = p.0; taken_fits = leb-true s.taken bit_limit q.0; waiting_zero = r.0; chaining_zero = r.1 }
 
-pub session-admits : (s : Session) → isSession s ≡ true → admitted s.bits ≡ true
-session-admits s e = (session-fits s e).admits
+pub session_admits : (s : Session) → is_session s ≡ true → admitted s.bits ≡ true
+session_admits s e = (session_fits s e).admits
 
 -- what code that found a session by the test a knows of it
-module _ (s : Session) (a : Bool) (e : a ≡ isSession s) (holds : not a ≡ false) where
-  is_one : isSession s ≡ true
+module _ (s : Session) (a : Bool) (e : a ≡ is_session s) (holds : not a ≡ false) where
+  is_one : is_session s ≡ true
   is_one = sym e ∙ not-false a holds
 
   fits : SessionFits s
-  fits = session-fits s is_one
+  fits = session_fits s is_one
 
   pub bits_most : s.bits ≤ 512
-  bits_most = (admitted-means s.bits fits.admits).1
+  bits_most = (admitted_means s.bits fits.admits).1
 
-  pub taken-most : s.taken ≤ bitLimit
-  taken-most = fits.taken-fits
+  pub taken_most : s.taken ≤ bit_limit
+  taken_most = fits.taken_fits
 
-  pub rest-zero : allZero (drop (s.taken % (8 * blockSize s.mode s.bits)) (bits_of s.waiting)) ≡ true
-  rest-zero = fits.waiting-zero
+  pub rest_zero : all_zero (drop (s.taken % (8 * block_size s.mode s.bits)) (bits_of s.waiting)) ≡ true
+  rest_zero = fits.waiting_zero
 
 -- ---- what adding so many bits of a piece is refused for, by the tests a, t and z that the code made
 
-module _ (s : Session) (piece : List ℕ) (count : ℕ) (a : Bool) (e : a ≡ isSession s) where
-  pub add-3 : not a ≡ true → 3 ≡ addBitsRefusal s piece count
-  unfolding addBitsRefusal
-  add-3 fails = simp (sym e ∙ not-true a fails)
+module _ (s : Session) (piece : List ℕ) (count : ℕ) (a : Bool) (e : a ≡ is_session s) where
+  pub add_3 : not a ≡ true → 3 ≡ add_bits_refusal s piece count
+  unfolding add_bits_refusal
+  add_3 fails = simp (sym e ∙ not-true a fails)
 
   module _ (holds : not a ≡ false) where
-    pub add-4 : bitLimit - s.taken < count → 4 ≡ addBitsRefusal s piece count
-    unfolding addBitsRefusal
-    add-4 n = simp (is_one s a e holds, lt-ltb bitLimit (s.taken + count) (omega (arith, taken-most s a e holds)))
+    pub add_4 : bit_limit - s.taken < count → 4 ≡ add_bits_refusal s piece count
+    unfolding add_bits_refusal
+    add_4 n = simp (is_one s a e holds, lt-ltb bit_limit (s.taken + count) (omega (arith, taken_most s a e holds)))
 
-    module _ (n : count ≤ bitLimit - s.taken) where
-      room : s.taken + count ≤ bitLimit
-      room = omega (arith, taken-most s a e holds)
+    module _ (n : count ≤ bit_limit - s.taken) where
+      room : s.taken + count ≤ bit_limit
+      room = omega (arith, taken_most s a e holds)
 
       pub size_fits : count + 7 < 2 ^ 64
       size_fits = omega (arith, room)
 
-      pub add-6 : (length piece ≡ (count + 7) / 8 → ⊥) → 6 ≡ addBitsRefusal s piece count
-      unfolding addBitsRefusal
-      add-6 l = simp (is_one s a e holds, le-ltb bitLimit (s.taken + count) room, ne_eqb (length piece) ((count + 7) / 8) l)
+      pub add_6 : (length piece ≡ (count + 7) / 8 → ⊥) → 6 ≡ add_bits_refusal s piece count
+      unfolding add_bits_refusal
+      add_6 l = simp (is_one s a e holds, le-ltb bit_limit (s.taken + count) room, ne_eqb (length piece) ((count + 7) / 8) l)
 
       module _ (l : length piece ≡ (count + 7) / 8) (t : Bool) (f : t ≡ (not (eqb (s.taken % 8) 0) && not (eqb count 0))) where
-        pub add-16 : t ≡ true → 16 ≡ addBitsRefusal s piece count
-        unfolding addBitsRefusal
-        add-16 b = simp (is_one s a e holds, le-ltb bitLimit (s.taken + count) room, eq-eqb (length piece) ((count + 7) / 8) l, sym f ∙ b)
+        pub add_16 : t ≡ true → 16 ≡ add_bits_refusal s piece count
+        unfolding add_bits_refusal
+        add_16 b = simp (is_one s a e holds, le-ltb bit_limit (s.taken + count) room, eq-eqb (length piece) ((count + 7) / 8) l, sym f ∙ b)
 
-        module _ (b : t ≡ false) (z : Bool) (g : z ≡ allZero (drop count (bits_of piece))) where
-          pub add-17 : not z ≡ true → 17 ≡ addBitsRefusal s piece count
-          unfolding addBitsRefusal
-          add-17 c =
+        module _ (b : t ≡ false) (z : Bool) (g : z ≡ all_zero (drop count (bits_of piece))) where
+          pub add_17 : not z ≡ true → 17 ≡ add_bits_refusal s piece count
+          unfolding add_bits_refusal
+          add_17 c =
               simp (
                 is_one s a e holds,
-                le-ltb bitLimit (s.taken + count) room,
+                le-ltb bit_limit (s.taken + count) room,
                 eq-eqb (length piece) ((count + 7) / 8) l,
                 sym f ∙ b,
                 sym g ∙ not-true z c,
               )
 
-          pub add-0 : not z ≡ false → 0 ≡ addBitsRefusal s piece count
-          unfolding addBitsRefusal
-          add-0 c =
+          pub add_0 : not z ≡ false → 0 ≡ add_bits_refusal s piece count
+          unfolding add_bits_refusal
+          add_0 c =
               simp (
                 is_one s a e holds,
-                le-ltb bitLimit (s.taken + count) room,
+                le-ltb bit_limit (s.taken + count) room,
                 eq-eqb (length piece) ((count + 7) / 8) l,
                 sym f ∙ b,
                 sym g ∙ not-false z c,
@@ -135,50 +135,50 @@ module _ (s : Session) (piece : List ℕ) (count : ℕ) (a : Bool) (e : a ≡ is
 
 -- nothing: what is known of session and piece then
 pub record Addable (s : Session) (piece : List ℕ) (count : ℕ) : Type 0 where
-  pub is : isSession s ≡ true
-  pub fits : s.taken + count ≤ bitLimit
+  pub is : is_session s ≡ true
+  pub fits : s.taken + count ≤ bit_limit
   pub sized : Sized piece count
   pub ends : (not (eqb (s.taken % 8) 0) && not (eqb count 0)) ≡ false
 
 module _ (s : Session) (piece : List ℕ) (count : ℕ) where
-  pub addable : addBitsRefusal s piece count ≡ 0 → Addable s piece count
-  unfolding addBitsRefusal
+  pub addable : add_bits_refusal s piece count ≡ 0 → Addable s piece count
+  unfolding add_bits_refusal
   addable e =
       let behind = not (eqb (s.taken % 8) 0) && not (eqb count 0) in
-      let set = not (allZero (drop count (bits_of piece))) in
+      let set = not (all_zero (drop count (bits_of piece))) in
       let size = not (eqb (length piece) ((count + 7) / 8)) in
-      let long = ltb bitLimit (s.taken + count) in
+      let long = ltb bit_limit (s.taken + count) in
       let p =
-      none_first 3 (not (isSession s)) ((4 when long) ∷ (6 when size) ∷ (16 when behind) ∷ (17 when set) ∷ []) (λ z. omega arith) e in
+      none_first 3 (not (is_session s)) ((4 when long) ∷ (6 when size) ∷ (16 when behind) ∷ (17 when set) ∷ []) (λ z. omega arith) e in
       let q = none_first 4 long ((6 when size) ∷ (16 when behind) ∷ (17 when set) ∷ []) (λ z. omega arith) p.1 in
       let r = none_first 6 size ((16 when behind) ∷ (17 when set) ∷ []) (λ z. omega arith) q.1 in
       let t = none_first 16 behind ((17 when set) ∷ []) (λ z. omega arith) r.1 in
       let u = none_first 17 set [] (λ z. omega arith) t.1 in
       record {
-        is = not-false (isSession s) p.0;
-        fits = ltb-false bitLimit (s.taken + count) q.0;
+        is = not-false (is_session s) p.0;
+        fits = ltb-false bit_limit (s.taken + count) q.0;
         sized =
             record {
               size = eqb-true (length piece) ((count + 7) / 8) (not-false (eqb (length piece) ((count + 7) / 8)) r.0);
-              clear = not-false (allZero (drop count (bits_of piece))) u.0;
+              clear = not-false (all_zero (drop count (bits_of piece))) u.0;
             };
         ends = t.0;
       }
 
-  pub nothing-refused : Addable s piece count → addBitsRefusal s piece count ≡ 0
-  nothing-refused A =
-      let most = (session-fits s A.is).taken-fits in
-      let fits : count ≤ bitLimit - s.taken = omega (arith, A.fits) in
-      sym (add-0 s piece count true (sym A.is) refl fits A.sized.size false (sym A.ends) refl true (sym A.sized.clear) refl)
+  pub nothing_refused : Addable s piece count → add_bits_refusal s piece count ≡ 0
+  nothing_refused A =
+      let most = (session_fits s A.is).taken_fits in
+      let fits : count ≤ bit_limit - s.taken = omega (arith, A.fits) in
+      sym (add_0 s piece count true (sym A.is) refl fits A.sized.size false (sym A.ends) refl true (sym A.sized.clear) refl)
 
 -- what the code answers, by the refusal r that it has
-module _ (s : Session) (piece : List ℕ) (count r : ℕ) (e : r ≡ addBitsRefusal s piece count) where
-  pub not-added : (r ≡ 0 → ⊥) → ◌≡◌ {A = Answer} (record { refusal = r; session = s }) (addBitsAnswer s piece count)
-  unfolding addBitsAnswer
-  not-added some = by r (addBitsRefusal s piece count) e some
+module _ (s : Session) (piece : List ℕ) (count r : ℕ) (e : r ≡ add_bits_refusal s piece count) where
+  pub not_added : (r ≡ 0 → ⊥) → ◌≡◌ {A = Answer} (record { refusal = r; session = s }) (add_bits_answer s piece count)
+  unfolding add_bits_answer
+  not_added some = by r (add_bits_refusal s piece count) e some
     where
       by : (r n : ℕ) → r ≡ n → (r ≡ 0 → ⊥)
-          → ◌≡◌ {A = Answer} (record { refusal = r; session = s }) (record { refusal = n; session = unless n (addBits s piece count) s })
+          → ◌≡◌ {A = Answer} (record { refusal = r; session = s }) (record { refusal = n; session = unless n (add_bits s piece count) s })
       by r zero e h = absurd (h e)
       by r (suc n) e h = ap (λ (k : ℕ). record { refusal = k; session = s }) e
 
@@ -186,111 +186,111 @@ module _ (s : Session) (piece : List ℕ) (count r : ℕ) (e : r ≡ addBitsRefu
     able : Addable s piece count
     able = addable s piece count (sym e ∙ none)
 
-    pub adds : s.taken + count ≤ bitLimit
+    pub adds : s.taken + count ≤ bit_limit
     adds = able.fits
 
     pub sum_fits : s.taken + count < 2 ^ 64
     sum_fits = omega (arith, adds)
 
-    pub bytes-are : length piece ≡ (count + 7) / 8
-    bytes-are = able.sized.size
+    pub bytes_are : length piece ≡ (count + 7) / 8
+    bytes_are = able.sized.size
 
-    pub added : (t : Session) → t ≡ addBits s piece count → ◌≡◌ {A = Answer} (record { refusal = 0; session = t }) (addBitsAnswer s piece count)
-    unfolding addBitsAnswer
+    pub added : (t : Session) → t ≡ add_bits s piece count → ◌≡◌ {A = Answer} (record { refusal = 0; session = t }) (add_bits_answer s piece count)
+    unfolding add_bits_answer
     added t d = rw (← e, none, d)
 
 -- whole bytes that are too many
-module _ (s : Session) (piece : List ℕ) (long : limit < length piece) (a : Bool) (e : a ≡ isSession s) where
-  pub over-3 : a ≡ false → ◌≡◌ {A = Answer} (record { refusal = 3; session = s }) (addAnswer s piece)
-  unfolding addAnswer
-  over-3 fails = not-added s piece (8 * length piece) 3 (add-3 s piece (8 * length piece) a e (ap not fails)) (λ z. omega arith)
+module _ (s : Session) (piece : List ℕ) (long : limit < length piece) (a : Bool) (e : a ≡ is_session s) where
+  pub over_3 : a ≡ false → ◌≡◌ {A = Answer} (record { refusal = 3; session = s }) (add_answer s piece)
+  unfolding add_answer
+  over_3 fails = not_added s piece (8 * length piece) 3 (add_3 s piece (8 * length piece) a e (ap not fails)) (λ z. omega arith)
 
-  pub over-4 : a ≡ true → ◌≡◌ {A = Answer} (record { refusal = 4; session = s }) (addAnswer s piece)
-  unfolding addAnswer
-  over-4 holds = not-added s piece (8 * length piece) 4 (add-4 s piece (8 * length piece) a e (ap not holds) (omega arith)) (λ z. omega arith)
+  pub over_4 : a ≡ true → ◌≡◌ {A = Answer} (record { refusal = 4; session = s }) (add_answer s piece)
+  unfolding add_answer
+  over_4 holds = not_added s piece (8 * length piece) 4 (add_4 s piece (8 * length piece) a e (ap not holds) (omega arith)) (λ z. omega arith)
 
 -- and those that may not be
-pub as_bits : (s : Session) (piece : List ℕ) (r : Answer) → r ≡ addBitsAnswer s piece (8 * length piece) → r ≡ addAnswer s piece
-unfolding addAnswer
+pub as_bits : (s : Session) (piece : List ℕ) (r : Answer) → r ≡ add_bits_answer s piece (8 * length piece) → r ≡ add_answer s piece
+unfolding add_answer
 as_bits s piece r e = e
 
 -- ---- opening
 
 module _ (mode : Mode) (h : ℕ) (salt : List ℕ) (a : Bool) (e : a ≡ admitted h) where
-  pub open-1 : not a ≡ true → (s : Session) → s ≡ blank → ◌≡◌ {A = Answer} (record { refusal = 1; session = s }) (openAnswer mode h salt)
-  unfolding openAnswer openRefusal
-  open-1 fails s b = rw (← e, not-true a fails, b)
+  pub open_1 : not a ≡ true → (s : Session) → s ≡ blank → ◌≡◌ {A = Answer} (record { refusal = 1; session = s }) (open_answer mode h salt)
+  unfolding open_answer open_refusal
+  open_1 fails s b = rw (← e, not-true a fails, b)
 
   module _ (holds : not a ≡ false) where
-    pub admitted-most : h ≤ 512
-    admitted-most = (admitted-means h (sym e ∙ not-false a holds)).1
+    pub admitted_most : h ≤ 512
+    admitted_most = (admitted_means h (sym e ∙ not-false a holds)).1
 
-    pub open-2 : (length salt ≡ 16 → ⊥) → (s : Session) → s ≡ blank → ◌≡◌ {A = Answer} (record { refusal = 2; session = s }) (openAnswer mode h salt)
-    unfolding openAnswer openRefusal
-    open-2 l s b = rw (← e, not-false a holds, ne_eqb (length salt) 16 l, b)
+    pub open_2 : (length salt ≡ 16 → ⊥) → (s : Session) → s ≡ blank → ◌≡◌ {A = Answer} (record { refusal = 2; session = s }) (open_answer mode h salt)
+    unfolding open_answer open_refusal
+    open_2 l s b = rw (← e, not-false a holds, ne_eqb (length salt) 16 l, b)
 
-    pub open-0 : length salt ≡ 16 → (own v : List ℕ) → own ≡ tab 16 (λ k. get_or salt (0 + k) 0)
-        → v ≡ initial (chainingSize mode h) h ++ replicate (128 - chainingSize mode h) 0
-        → ◌≡◌ {A = Answer} (record { refusal = 0; session = made mode h own v 0 (replicate 224 0) }) (openAnswer mode h salt)
-    unfolding openAnswer openRefusal opened
-    open-0 l own v o c = rw (← e, not-false a holds, eq-eqb (length salt) 16 l, o ∙ sixteen-are salt l, c)
+    pub open_0 : length salt ≡ 16 → (own v : List ℕ) → own ≡ tab 16 (λ k. get_or salt (0 + k) 0)
+        → v ≡ initial (chaining_size mode h) h ++ replicate (128 - chaining_size mode h) 0
+        → ◌≡◌ {A = Answer} (record { refusal = 0; session = made mode h own v 0 (replicate 224 0) }) (open_answer mode h salt)
+    unfolding open_answer open_refusal opened
+    open_0 l own v o c = rw (← e, not-false a holds, eq-eqb (length salt) 16 l, o ∙ sixteen_are salt l, c)
 
 -- ---- reading
 
 -- the first n bytes of the chaining room are those of the chaining variable
-cut : (s : Session) (v : List ℕ) → length v ≡ 128 → s.bits ≤ 512 → take (chainingSize s.mode s.bits) v ≡ finalChaining s
-    → take (s.bits / 8) v ≡ sessionDigest s
-unfolding sessionDigest
+cut : (s : Session) (v : List ℕ) → length v ≡ 128 → s.bits ≤ 512 → take (chaining_size s.mode s.bits) v ≡ final_chaining s
+    → take (s.bits / 8) v ≡ session_digest s
+unfolding session_digest
 cut s v l h e =
     let S = sizes s.mode s.bits in
-    let within = digest-in-chaining s.mode s.bits h in
-    ap (take (s.bits / 8)) (sym (take-append-drop (chainingSize s.mode s.bits) v))
-    ∙ take-append-le (s.bits / 8) (take (chainingSize s.mode s.bits) v) (drop (chainingSize s.mode s.bits) v)
-    (omega (arith, length-take-le (chainingSize s.mode s.bits) v (omega arith)))
+    let within = digest_in_chaining s.mode s.bits h in
+    ap (take (s.bits / 8)) (sym (take-append-drop (chaining_size s.mode s.bits) v))
+    ∙ take-append-le (s.bits / 8) (take (chaining_size s.mode s.bits) v) (drop (chaining_size s.mode s.bits) v)
+    (omega (arith, length-take-le (chaining_size s.mode s.bits) v (omega arith)))
     ∙ ap (take (s.bits / 8)) e
 
-module _ (s : Session) (room : List ℕ) (a : Bool) (e : a ≡ isSession s) where
-  pub read-3 : not a ≡ true → ◌≡◌ {A = Answer} (record { refusal = 3; session = s }) (readAnswer s (length room))
-  unfolding readAnswer readRefusal
-  read-3 fails = rw (← e, not-true a fails)
+module _ (s : Session) (room : List ℕ) (a : Bool) (e : a ≡ is_session s) where
+  pub read_3 : not a ≡ true → ◌≡◌ {A = Answer} (record { refusal = 3; session = s }) (read_answer s (length room))
+  unfolding read_answer read_refusal
+  read_3 fails = rw (← e, not-true a fails)
 
-  pub left-3 : not a ≡ true → room ≡ readLeaves s room
-  unfolding readLeaves readRefusal
-  left-3 fails = rw (← e, not-true a fails)
+  pub left_3 : not a ≡ true → room ≡ read_leaves s room
+  unfolding read_leaves read_refusal
+  left_3 fails = rw (← e, not-true a fails)
 
   module _ (holds : not a ≡ false) where
-    pub read-5 : length room < s.bits / 8 → ◌≡◌ {A = Answer} (record { refusal = 5; session = s }) (readAnswer s (length room))
-    unfolding readAnswer readRefusal
-    read-5 l = rw (← e, not-false a holds, lt-ltb (length room) (s.bits / 8) l)
+    pub read_5 : length room < s.bits / 8 → ◌≡◌ {A = Answer} (record { refusal = 5; session = s }) (read_answer s (length room))
+    unfolding read_answer read_refusal
+    read_5 l = rw (← e, not-false a holds, lt-ltb (length room) (s.bits / 8) l)
 
-    pub left-5 : length room < s.bits / 8 → room ≡ readLeaves s room
-    unfolding readLeaves readRefusal
-    left-5 l = rw (← e, not-false a holds, lt-ltb (length room) (s.bits / 8) l)
+    pub left_5 : length room < s.bits / 8 → room ≡ read_leaves s room
+    unfolding read_leaves read_refusal
+    left_5 l = rw (← e, not-false a holds, lt-ltb (length room) (s.bits / 8) l)
 
-    pub read-0 : s.bits / 8 ≤ length room → ◌≡◌ {A = Answer} (record { refusal = 0; session = s }) (readAnswer s (length room))
-    unfolding readAnswer readRefusal
-    read-0 l = rw (← e, not-false a holds, le-ltb (length room) (s.bits / 8) l)
+    pub read_0 : s.bits / 8 ≤ length room → ◌≡◌ {A = Answer} (record { refusal = 0; session = s }) (read_answer s (length room))
+    unfolding read_answer read_refusal
+    read_0 l = rw (← e, not-false a holds, le-ltb (length room) (s.bits / 8) l)
 
-    pub left-0 : s.bits / 8 ≤ length room → (r : List ℕ) → r ≡ sessionDigest s ++ drop (s.bits / 8) room → r ≡ readLeaves s room
-    unfolding readLeaves readRefusal
-    left-0 l r d = rw (← e, not-false a holds, le-ltb (length room) (s.bits / 8) l) d
+    pub left_0 : s.bits / 8 ≤ length room → (r : List ℕ) → r ≡ session_digest s ++ drop (s.bits / 8) room → r ≡ read_leaves s room
+    unfolding read_leaves read_refusal
+    left_0 l r d = rw (← e, not-false a holds, le-ltb (length room) (s.bits / 8) l) d
 
     -- v is the chaining room when the last blocks are taken: its front is the digest
     module _ (v : List ℕ) (kept : length v ≡ length s.chaining) (chains : length s.chaining ≡ 128) where
-      pub digest-within : s.bits / 8 ≤ length v
-      digest-within = omega (arith, bits_most s a e holds)
+      pub digest_within : s.bits / 8 ≤ length v
+      digest_within = omega (arith, bits_most s a e holds)
 
-      pub digest-long : s.bits / 8 ≡ length (take (s.bits / 8) v)
-      digest-long = sym (length-take-le (s.bits / 8) v digest-within)
+      pub digest_long : s.bits / 8 ≡ length (take (s.bits / 8) v)
+      digest_long = sym (length-take-le (s.bits / 8) v digest_within)
 
       module _ (l : s.bits / 8 ≤ length room) where
-        pub digest-fits : 0 + length (take (s.bits / 8) v) ≤ length room
-        digest-fits = omega (arith, digest-long)
+        pub digest_fits : 0 + length (take (s.bits / 8) v) ≤ length room
+        digest_fits = omega (arith, digest_long)
 
-        pub left-digest : (r : List ℕ) → Placed room 0 (take (s.bits / 8) v) (length (take (s.bits / 8) v)) r
-            → take (chainingSize s.mode s.bits) v ≡ finalChaining s → r ≡ readLeaves s room
-        left-digest r P f =
-            left-0 l r
-            (placed-front room (take (s.bits / 8) v) r (s.bits / 8) (sym digest-long) l
-            (subst (λ (k : ℕ). Placed room 0 (take (s.bits / 8) v) k r) (sym digest-long) P)
+        pub left_digest : (r : List ℕ) → Placed room 0 (take (s.bits / 8) v) (length (take (s.bits / 8) v)) r
+            → take (chaining_size s.mode s.bits) v ≡ final_chaining s → r ≡ read_leaves s room
+        left_digest r P f =
+            left_0 l r
+            (placed_front room (take (s.bits / 8) v) r (s.bits / 8) (sym digest_long) l
+            (subst (λ (k : ℕ). Placed room 0 (take (s.bits / 8) v) k r) (sym digest_long) P)
             ∙ ap (λ (d : List ℕ). d ++ drop (s.bits / 8) room) (cut s v (kept ∙ chains) (bits_most s a e holds) f))

@@ -2,9 +2,9 @@
 use Rattle.std.proofs.Common.{◌≡◌, ℕ, zero, suc, List, length, sym, refl, ap, ◌∙◌, subst}
 use Rattle.aes_round.specs.Bytes.{Bytes}
 use Rattle.echo.specs.Refusals.{unless}
-use Rattle.echo.specs.Square.{rounds, roundsBack}
+use Rattle.echo.specs.Square.{rounds, rounds_back}
 use Rattle.echo.proofs.Laws.Refusals.{done}
-use Rattle.echo.proofs.Laws.Square.{Keys, rounds-are-squares, rounds-back-are-squares, rounds-back-undone, rounds-undone}
+use Rattle.echo.proofs.Laws.Square.{Keys, rounds_are_squares, rounds_back_are_squares, rounds_back_undone, rounds_undone}
 
 -- the refusal of a square of so many bytes
 module _ (refusal : ℕ → ℕ) (count : ℕ) (key : ℕ → List ℕ) (salt : List ℕ) where
@@ -25,23 +25,23 @@ module _ (refusal : ℕ → ℕ) (count : ℕ) (key : ℕ → List ℕ) (salt : 
       as_long : (t : List ℕ) → Bytes 256 t → refusal (length t) ≡ 0
       as_long t T = ap refusal (T.long ∙ sym (fit e).0) ∙ e
 
-      forth-and-back : leaves roundsBack (leaves rounds square) ≡ square
-      forth-and-back =
+      forth_and_back : leaves rounds_back (leaves rounds square) ≡ square
+      forth_and_back =
           let t = rounds count key salt square in
-          ap (leaves roundsBack) (done (refusal (length square)) t square e)
-          ∙ done (refusal (length t)) (roundsBack count key salt t) t (as_long t (rounds-are-squares key salt K L16 count square S256))
-          ∙ rounds-undone key salt K L16 count square S256
+          ap (leaves rounds_back) (done (refusal (length square)) t square e)
+          ∙ done (refusal (length t)) (rounds_back count key salt t) t (as_long t (rounds_are_squares key salt K L16 count square S256))
+          ∙ rounds_undone key salt K L16 count square S256
 
-      back_and_forth : leaves rounds (leaves roundsBack square) ≡ square
+      back_and_forth : leaves rounds (leaves rounds_back square) ≡ square
       back_and_forth =
-          let t = roundsBack count key salt square in
+          let t = rounds_back count key salt square in
           ap (leaves rounds) (done (refusal (length square)) t square e)
-          ∙ done (refusal (length t)) (rounds count key salt t) t (as_long t (rounds-back-are-squares key salt K L16 count square S256))
-          ∙ rounds-back-undone key salt K L16 count square S256
+          ∙ done (refusal (length t)) (rounds count key salt t) t (as_long t (rounds_back_are_squares key salt K L16 count square S256))
+          ∙ rounds_back_undone key salt K L16 count square S256
 
-    pub undo-each-other : (leaves roundsBack (leaves rounds square) ≡ square) × (leaves rounds (leaves roundsBack square) ≡ square)
-    undo-each-other = by (refusal (length square)) refl
+    pub undo_each_other : (leaves rounds_back (leaves rounds square) ≡ square) × (leaves rounds (leaves rounds_back square) ≡ square)
+    undo_each_other = by (refusal (length square)) refl
       where
-        by : (n : ℕ) → refusal (length square) ≡ n → (leaves roundsBack (leaves rounds square) ≡ square) × (leaves rounds (leaves roundsBack square) ≡ square)
-        by zero e = (forth-and-back e, back_and_forth e)
+        by : (n : ℕ) → refusal (length square) ≡ n → (leaves rounds_back (leaves rounds square) ≡ square) × (leaves rounds (leaves rounds_back square) ≡ square)
+        by zero e = (forth_and_back e, back_and_forth e)
         by (suc k) e = (rw (e, e) refl, rw (e, e) refl)

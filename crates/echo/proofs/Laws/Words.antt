@@ -2,20 +2,20 @@
 use Rattle.std.proofs.Common.{◌≡◌, ℕ, ◌+◌, ◌*◌, ◌/◌, ◌%◌, ◌<◌, ◌≤◌, List, length, get_or, sym, ap, ◌∙◌, subst, ap₂, zero-add, arith}
 use Rattle.aes_round.specs.Array.{array}
 use Rattle.aes_round.specs.Bytes.{tab}
-use Rattle.aes_round.specs.Rounds.{aesRound, aesRoundBack}
-use Rattle.aes_round.proofs.Promises.{Filled, entry-is, entry-shift, entry-shift-back, fill-all, fill_none, is-tab, tab-array, tab-ext}
+use Rattle.aes_round.specs.Rounds.{aes_round, aes_round_back}
+use Rattle.aes_round.proofs.Promises.{Filled, entry_is, entry_shift, entry_shift_back, fill_all, fill_none, is_tab, tab_array, tab_ext}
 use Rattle.echo.specs.Placed.{Placed}
-use Rattle.echo.specs.Square.{bigShiftRows, bigShiftRowsBack, bigSubWords, bigSubWordsBack, word}
-use Rattle.echo.proofs.Laws.Placed.{fill-part}
+use Rattle.echo.specs.Square.{big_shift_rows, big_shift_rows_back, big_sub_words, big_sub_words_back, word}
+use Rattle.echo.proofs.Laws.Placed.{fill_part}
 
 -- a word by the bytes that the code reads
-pub word-is : (s : List ℕ) (i : ℕ) → word s i ≡ tab 16 (λ b. get_or s (16 * i + b) 0)
+pub word_is : (s : List ℕ) (i : ℕ) → word s i ≡ tab 16 (λ b. get_or s (16 * i + b) 0)
 unfolding word
-word-is s i = tab-ext 16 _ _ (λ b h. entry-is 16 s i b)
+word_is s i = tab_ext 16 _ _ (λ b h. entry_is 16 s i b)
 
 -- sixteen bytes read one by one
-pub sixteen-are : (l : List ℕ) → length l ≡ 16 → tab 16 (λ k. get_or l (0 + k) 0) ≡ l
-sixteen-are l e = sym (is-tab 16 l _ e (λ k h. ap (λ (i : ℕ). get_or l i 0) (sym (zero-add k))))
+pub sixteen_are : (l : List ℕ) → length l ≡ 16 → tab 16 (λ k. get_or l (0 + k) 0) ≡ l
+sixteen_are l e = sym (is_tab 16 l _ e (λ k h. ap (λ (i : ℕ). get_or l i 0) (sym (zero-add k))))
 
 -- ---- a loop that rewrites word after word: f i is the new word i
 
@@ -32,15 +32,15 @@ module _ (f : ℕ → List ℕ) (l : List ℕ) where
   no_words = fill_none 256 (bytes_of f) l
 
   -- the word j is still the old one
-  old-word : (j : ℕ) (s : List ℕ) → Words j s → tab 16 (λ b. get_or s (16 * j + b) 0) ≡ word l j
+  old_word : (j : ℕ) (s : List ℕ) → Words j s → tab 16 (λ b. get_or s (16 * j + b) 0) ≡ word l j
   unfolding Words
-  old-word j s F = tab-ext 16 _ _ (λ b h. F.rest (16 * j + b) (omega arith)) ∙ sym (word-is l j)
+  old_word j s F = tab_ext 16 _ _ (λ b h. F.rest (16 * j + b) (omega arith)) ∙ sym (word_is l j)
 
   next_word : (j : ℕ) (s w t : List ℕ) → Words j s → j < 16 → Placed s (16 * j) w 16 t → w ≡ f j → Words (j + 1) t
   unfolding Words
   next_word j s w t F h P e =
       subst (λ (k : ℕ). Filled 256 (bytes_of f) l k t) (steps j)
-      (fill-part 256 (bytes_of f) l (16 * j) s w t 16 F P (omega arith)
+      (fill_part 256 (bytes_of f) l (16 * j) s w t 16 F P (omega arith)
       (λ b hb. ap (λ (v : List ℕ). get_or v b 0) e ∙ ap₂ (λ (q r : ℕ). get_or (f q) r 0) (quotient j b hb) (remainder j b hb)))
     where
       steps : (j : ℕ) → 16 * j + 16 ≡ 16 * (j + 1)
@@ -55,8 +55,8 @@ module _ (f : ℕ → List ℕ) (l : List ℕ) where
   all_words : (j : ℕ) (s : List ℕ) → Words j s → 16 ≤ j → s ≡ array 16 (λ i b. get_or (f i) b 0)
   unfolding Words
   all_words j s F h =
-      fill-all 256 (bytes_of f) l (16 * j) s F (omega arith)
-      ∙ tab-array 16 (bytes_of f) _ (λ i b hi hb. ap₂ (λ (q r : ℕ). get_or (f q) r 0) (quotient i b hb) (remainder i b hb))
+      fill_all 256 (bytes_of f) l (16 * j) s F (omega arith)
+      ∙ tab_array 16 (bytes_of f) _ (λ i b hi hb. ap₂ (λ (q r : ℕ). get_or (f q) r 0) (quotient i b hb) (remainder i b hb))
     where
       quotient : (j b : ℕ) → b < 16 → (16 * j + b) / 16 ≡ j
       quotient j b h = omega arith
@@ -71,43 +71,43 @@ module _ (f : List ℕ → List ℕ → List ℕ → List ℕ) (key : ℕ → Li
   pub Through : ℕ → List ℕ → Type 0
   Through = Words (λ i. f (word l i) (key i) salt) l
 
-  pub none-through : length l ≡ 256 → Through 0 l
+  pub none_through : length l ≡ 256 → Through 0 l
   unfolding Through
-  none-through = no_words _ l
+  none_through = no_words _ l
 
-  pub next-through : (j : ℕ) (s w k t r : List ℕ) → Placed s (16 * j) t (length t) r → t ≡ f w k salt → w ≡ tab 16 (λ b. get_or s (16 * j + b) 0) → k ≡ key j
+  pub next_through : (j : ℕ) (s w k t r : List ℕ) → Placed s (16 * j) t (length t) r → t ≡ f w k salt → w ≡ tab 16 (λ b. get_or s (16 * j + b) 0) → k ≡ key j
       → length t ≡ 16 → j < 16 → Through j s → Through (j + 1) r
   unfolding Through
-  next-through j s w k t r P e p q lt h T =
+  next_through j s w k t r P e p q lt h T =
       next_word _ l j s t r T h (subst (λ (n : ℕ). Placed s (16 * j) t n r) lt P)
-      (e ∙ ap₂ (λ (x y : List ℕ). f x y salt) (p ∙ old-word _ l j s T) q)
+      (e ∙ ap₂ (λ (x y : List ℕ). f x y salt) (p ∙ old_word _ l j s T) q)
 
-  all-through : (j : ℕ) (s : List ℕ) → Through j s → 16 ≤ j → s ≡ array 16 (λ i b. get_or (f (word l i) (key i) salt) b 0)
+  all_through : (j : ℕ) (s : List ℕ) → Through j s → 16 ≤ j → s ≡ array 16 (λ i b. get_or (f (word l i) (key i) salt) b 0)
   unfolding Through
-  all-through = all_words _ l
+  all_through = all_words _ l
 
 -- two rounds of the AES and two back, with the subkeys k and salt
 abbrev pub forth : List ℕ → List ℕ → List ℕ → List ℕ
-forth w k salt = aesRound (aesRound w k) salt
+forth w k salt = aes_round (aes_round w k) salt
 
 abbrev pub back : List ℕ → List ℕ → List ℕ → List ℕ
-back w k salt = aesRoundBack (aesRoundBack w salt) k
+back w k salt = aes_round_back (aes_round_back w salt) k
 
 module _ (key : ℕ → List ℕ) (salt l : List ℕ) (j : ℕ) (s : List ℕ) where
-  pub through-forth : Through forth key salt l j s → 16 ≤ j → s ≡ bigSubWords key salt l
-  unfolding bigSubWords
-  through-forth = all-through forth key salt l j s
+  pub through_forth : Through forth key salt l j s → 16 ≤ j → s ≡ big_sub_words key salt l
+  unfolding big_sub_words
+  through_forth = all_through forth key salt l j s
 
-  pub through-back : Through back key salt l j s → 16 ≤ j → s ≡ bigSubWordsBack key salt l
-  unfolding bigSubWordsBack
-  through-back = all-through back key salt l j s
+  pub through_back : Through back key salt l j s → 16 ≤ j → s ≡ big_sub_words_back key salt l
+  unfolding big_sub_words_back
+  through_back = all_through back key salt l j s
 
 -- ---- BIG.ShiftRows and its way back: the word that comes to place i
 
-pub shifted-word : (s : List ℕ) (i : ℕ) → i < 16 → word (bigShiftRows s) i ≡ word s (5 * i % 16)
-unfolding word bigShiftRows
-shifted-word s i h = tab-ext 16 _ _ (λ b hb. entry-shift 16 s i b h hb)
+pub shifted_word : (s : List ℕ) (i : ℕ) → i < 16 → word (big_shift_rows s) i ≡ word s (5 * i % 16)
+unfolding word big_shift_rows
+shifted_word s i h = tab_ext 16 _ _ (λ b hb. entry_shift 16 s i b h hb)
 
-pub shifted-back-word : (s : List ℕ) (i : ℕ) → i < 16 → word (bigShiftRowsBack s) i ≡ word s (13 * i % 16)
-unfolding word bigShiftRowsBack
-shifted-back-word s i h = tab-ext 16 _ _ (λ b hb. entry-shift-back 16 s i b h hb)
+pub shifted_back_word : (s : List ℕ) (i : ℕ) → i < 16 → word (big_shift_rows_back s) i ≡ word s (13 * i % 16)
+unfolding word big_shift_rows_back
+shifted_back_word s i h = tab_ext 16 _ _ (λ b hb. entry_shift_back 16 s i b h hb)

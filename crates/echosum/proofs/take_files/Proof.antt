@@ -7,10 +7,10 @@ use Rattle.echosum.proofs.take_files.Statement.{statement}
 use Rattle.echosum.proofs.take_files.Tie as tie
 
 abbrev invariant-loop : tie.invariant-loop
-invariant-loop session asked room₀ options₀ goes-on₀ is-good₀ count i₀ room options goes_on is-good i = length room ≡ 4096
+invariant-loop session asked room₀ options₀ goes-on₀ is-good₀ count i₀ room options goes_on is_good i = length room ≡ 4096
 
 abbrev decreases-loop : tie.decreases-loop
-decreases-loop session asked room₀ options₀ goes-on₀ is-good₀ count i₀ room options goes_on is-good i = count - i
+decreases-loop session asked room₀ options₀ goes-on₀ is-good₀ count i₀ room options goes_on is_good i = count - i
 
 buffer-requires : tie.Need-buffer-requires invariant-loop decreases-loop
 buffer-requires c κs = search rules

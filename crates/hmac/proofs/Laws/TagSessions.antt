@@ -12,272 +12,272 @@ use Rattle.echo.specs.declared.mode.Mode.{Mode}
 use Rattle.echo.specs.declared.mode.Mode.TheVariants.{DoublePipe, SinglePipe}
 use Rattle.echo.specs.declared.session.Answer.{Answer}
 use Rattle.echo.specs.declared.session.Session.{Session}
-use Rattle.echo.specs.Session.{addAnswer, bitLimit, isSession, readAnswer, readLeaves, sessionDigest}
-use Rattle.echo.proofs.Promises.{add-is-session, add-keeps, both, double-block, reads-room, refuses-bytes, refuses-room, session-admits}
-use Rattle.echo.proofs.Promises.{session-digest-long, takes-bytes}
-use Rattle.echo.proofs.Theorems.{admitted-exactly}
+use Rattle.echo.specs.Session.{add_answer, bit_limit, is_session, read_answer, read_leaves, session_digest}
+use Rattle.echo.proofs.Promises.{add_is_session, add_keeps, both, double_block, reads_room, refuses_bytes, refuses_room, session_admits}
+use Rattle.echo.proofs.Promises.{session_digest_long, takes_bytes}
+use Rattle.echo.proofs.Theorems.{admitted_exactly}
 use Rattle.hmac.specs.declared.tag_session.Checking.{Checking}
 use Rattle.hmac.specs.declared.tag_session.TagAnswer.{TagAnswer}
 use Rattle.hmac.specs.declared.tag_session.TagSession.{TagSession}
-use Rattle.hmac.specs.DoublePipe.{blockSize, isDoublePipe}
+use Rattle.hmac.specs.DoublePipe.{block_size, is_double_pipe}
 use Rattle.hmac.specs.Same.{same}
-use Rattle.hmac.specs.TagSession.{addTagAnswer, addTagBytes, addTagRefusal, checkTagAnswer, checkTagRefusal, closedBy, countsFit}
-use Rattle.hmac.specs.TagSession.{isTagSession, readTagAnswer, readTagLeaves, readTagRefusal, sessionTag}
-use Rattle.hmac.proofs.Laws.Same.{same-equal, same_self}
+use Rattle.hmac.specs.TagSession.{add_tag_answer, add_tag_bytes, add_tag_refusal, check_tag_answer, check_tag_refusal, closed_by, counts_fit}
+use Rattle.hmac.specs.TagSession.{is_tag_session, read_tag_answer, read_tag_leaves, read_tag_refusal, session_tag}
+use Rattle.hmac.proofs.Laws.Same.{same_equal, same_self}
 
 -- ---- which records are tag sessions: the answers of is_session, by the tests i, o, m, d and s that the code made
 
-module _ (t : TagSession) (i : Bool) (ei : i ≡ isSession t.inner) where
-  pub no_inner : not i ≡ true → false ≡ isTagSession t
-  unfolding isTagSession
+module _ (t : TagSession) (i : Bool) (ei : i ≡ is_session t.inner) where
+  pub no_inner : not i ≡ true → false ≡ is_tag_session t
+  unfolding is_tag_session
   no_inner fails = rw (← ei, not-true i fails)
 
-  module _ (inner : not i ≡ false) (o : Bool) (eo : o ≡ isSession t.outer) where
-    pub no_outer : not o ≡ true → false ≡ isTagSession t
-    unfolding isTagSession
+  module _ (inner : not i ≡ false) (o : Bool) (eo : o ≡ is_session t.outer) where
+    pub no_outer : not o ≡ true → false ≡ is_tag_session t
+    unfolding is_tag_session
     no_outer fails = rw (← ei, not-false i inner, ← eo, not-true o fails)
 
-    module _ (outer : not o ≡ false) (m : Bool) (em : m ≡ isDoublePipe t.inner.mode) where
-      pub inner-other-mode : not m ≡ true → false ≡ isTagSession t
-      unfolding isTagSession
-      inner-other-mode fails = rw (← ei, not-false i inner, ← eo, not-false o outer, ← em, not-true m fails)
+    module _ (outer : not o ≡ false) (m : Bool) (em : m ≡ is_double_pipe t.inner.mode) where
+      pub inner_other_mode : not m ≡ true → false ≡ is_tag_session t
+      unfolding is_tag_session
+      inner_other_mode fails = rw (← ei, not-false i inner, ← eo, not-false o outer, ← em, not-true m fails)
 
-      module _ (inner-mode : not m ≡ false) (d : Bool) (ed : d ≡ isDoublePipe t.outer.mode) where
-        pub outer-other-mode : not d ≡ true → false ≡ isTagSession t
-        unfolding isTagSession
-        outer-other-mode fails = rw (← ei, not-false i inner, ← eo, not-false o outer, ← em, not-false m inner-mode, ← ed, not-true d fails)
+      module _ (inner_mode : not m ≡ false) (d : Bool) (ed : d ≡ is_double_pipe t.outer.mode) where
+        pub outer_other_mode : not d ≡ true → false ≡ is_tag_session t
+        unfolding is_tag_session
+        outer_other_mode fails = rw (← ei, not-false i inner, ← eo, not-false o outer, ← em, not-false m inner_mode, ← ed, not-true d fails)
 
         -- both are sessions in double-pipe: what is left to test
-        module _ (outer-mode : not d ≡ false) where
+        module _ (outer_mode : not d ≡ false) where
           abbrev left : Bool
           left =
               eqb t.inner.bits t.outer.bits
               && (same t.inner.salt t.outer.salt
-              && countsFit t.inner.taken t.outer.taken t.outer.bits)
+              && counts_fit t.inner.taken t.outer.taken t.outer.bits)
 
-          left-decides : left ≡ isTagSession t
-          unfolding isTagSession
-          left-decides = rw (← ei, not-false i inner, ← eo, not-false o outer, ← em, not-false m inner-mode, ← ed, not-false d outer-mode)
+          left_decides : left ≡ is_tag_session t
+          unfolding is_tag_session
+          left_decides = rw (← ei, not-false i inner, ← eo, not-false o outer, ← em, not-false m inner_mode, ← ed, not-false d outer_mode)
 
-          pub other-bits : (t.inner.bits ≡ t.outer.bits → ⊥) → false ≡ isTagSession t
-          other-bits n = let fails : false ≡ left = rw (ne_eqb _ _ n) in fails ∙ left-decides
+          pub other_bits : (t.inner.bits ≡ t.outer.bits → ⊥) → false ≡ is_tag_session t
+          other_bits n = let fails : false ≡ left = rw (ne_eqb _ _ n) in fails ∙ left_decides
 
           module _ (bits : t.inner.bits ≡ t.outer.bits) (s : Bool) (es : s ≡ same t.inner.salt t.outer.salt) where
-            pub other-salt : not s ≡ true → false ≡ isTagSession t
-            other-salt n = let fails : false ≡ left = rw (eq-eqb _ _ bits, ← es, not-true s n) in fails ∙ left-decides
+            pub other_salt : not s ≡ true → false ≡ is_tag_session t
+            other_salt n = let fails : false ≡ left = rw (eq-eqb _ _ bits, ← es, not-true s n) in fails ∙ left_decides
 
-            pub counts-decide : not s ≡ false → (c : Bool) → c ≡ countsFit t.inner.taken t.outer.taken t.outer.bits → c ≡ isTagSession t
-            counts-decide salt c e =
-                let decides : countsFit t.inner.taken t.outer.taken t.outer.bits ≡ left = rw (eq-eqb _ _ bits, ← es, not-false s salt) in
-                e ∙ decides ∙ left-decides
+            pub counts_decide : not s ≡ false → (c : Bool) → c ≡ counts_fit t.inner.taken t.outer.taken t.outer.bits → c ≡ is_tag_session t
+            counts_decide salt c e =
+                let decides : counts_fit t.inner.taken t.outer.taken t.outer.bits ≡ left = rw (eq-eqb _ _ bits, ← es, not-false s salt) in
+                e ∙ decides ∙ left_decides
 
 -- the counts, by the block size b that the code computed
-module _ (inner outer h b : ℕ) (size : b ≡ blockSize h) where
-  pub block-counted : 8 * b < 2 ^ 64
-  block-counted = let S = double-block h in omega arith
+module _ (inner outer h b : ℕ) (size : b ≡ block_size h) where
+  pub block_counted : 8 * b < 2 ^ 64
+  block_counted = let S = double_block h in omega arith
 
-  bits_of : 8 * blockSize h ≡ 8 * b
+  bits_of : 8 * block_size h ≡ 8 * b
   bits_of = ap (λ (x : ℕ). 8 * x) (sym size)
 
-  pub other-count : (outer ≡ 8 * b → ⊥) → false ≡ countsFit inner outer h
-  other-count n = rw (bits_of, ne_eqb outer (8 * b) n)
+  pub other_count : (outer ≡ 8 * b → ⊥) → false ≡ counts_fit inner outer h
+  other_count n = rw (bits_of, ne_eqb outer (8 * b) n)
 
   module _ (count : outer ≡ 8 * b) where
-    pub too_few : inner < 8 * b → false ≡ countsFit inner outer h
+    pub too_few : inner < 8 * b → false ≡ counts_fit inner outer h
     too_few n = rw (bits_of, eq-eqb outer (8 * b) count, lt-leb (8 * b) inner n)
 
-    pub right-count : 8 * b ≤ inner → eqb (inner % 8) 0 ≡ countsFit inner outer h
-    right-count n = rw (bits_of, eq-eqb outer (8 * b) count, le-leb (8 * b) inner n)
+    pub right_count : 8 * b ≤ inner → eqb (inner % 8) 0 ≡ counts_fit inner outer h
+    right_count n = rw (bits_of, eq-eqb outer (8 * b) count, le-leb (8 * b) inner n)
 
-double-pipe : (mode : Mode) → isDoublePipe mode ≡ true → mode ≡ DoublePipe
-double-pipe DoublePipe e = refl
-double-pipe SinglePipe e = absurd (true≢false (sym e))
+double_pipe : (mode : Mode) → is_double_pipe mode ≡ true → mode ≡ DoublePipe
+double_pipe DoublePipe e = refl
+double_pipe SinglePipe e = absurd (true≢false (sym e))
 
 pub record TagFits (t : TagSession) : Type 0 where
-  pub inner-is : isSession t.inner ≡ true
-  pub outer-is : isSession t.outer ≡ true
-  pub inner-mode : t.inner.mode ≡ DoublePipe
-  pub outer-mode : t.outer.mode ≡ DoublePipe
-  pub one-length : t.inner.bits ≡ t.outer.bits
-  pub one-salt : t.inner.salt ≡ t.outer.salt
-  pub outer-block : t.outer.taken ≡ 8 * blockSize t.outer.bits
-  pub inner-more : 8 * blockSize t.outer.bits ≤ t.inner.taken
-  pub inner-whole : t.inner.taken % 8 ≡ 0
+  pub inner_is : is_session t.inner ≡ true
+  pub outer_is : is_session t.outer ≡ true
+  pub inner_mode : t.inner.mode ≡ DoublePipe
+  pub outer_mode : t.outer.mode ≡ DoublePipe
+  pub one_length : t.inner.bits ≡ t.outer.bits
+  pub one_salt : t.inner.salt ≡ t.outer.salt
+  pub outer_block : t.outer.taken ≡ 8 * block_size t.outer.bits
+  pub inner_more : 8 * block_size t.outer.bits ≤ t.inner.taken
+  pub inner_whole : t.inner.taken % 8 ≡ 0
 
-pub tag_fits : (t : TagSession) → isTagSession t ≡ true → TagFits t
-unfolding isTagSession
+pub tag_fits : (t : TagSession) → is_tag_session t ≡ true → TagFits t
+unfolding is_tag_session
 tag_fits t e =
-    let p = both (isSession t.inner) _ e in
-    let q = both (isSession t.outer) _ p.1 in
-    let v = both (isDoublePipe t.inner.mode) _ q.1 in
-    let w = both (isDoublePipe t.outer.mode) _ v.1 in
+    let p = both (is_session t.inner) _ e in
+    let q = both (is_session t.outer) _ p.1 in
+    let v = both (is_double_pipe t.inner.mode) _ q.1 in
+    let w = both (is_double_pipe t.outer.mode) _ v.1 in
     let r = both (eqb t.inner.bits t.outer.bits) _ w.1 in
     let s = both (same t.inner.salt t.outer.salt) _ r.1 in
-    let u = both (eqb t.outer.taken (8 * blockSize t.outer.bits)) _ s.1 in
-    let x = both (leb (8 * blockSize t.outer.bits) t.inner.taken) _ u.1 in
+    let u = both (eqb t.outer.taken (8 * block_size t.outer.bits)) _ s.1 in
+    let x = both (leb (8 * block_size t.outer.bits) t.inner.taken) _ u.1 in
     record {
-      inner-is = p.0;
-      outer-is = q.0;
-      inner-mode = double-pipe _ v.0;
-      outer-mode = double-pipe _ w.0;
-      one-length = eqb-true _ _ r.0;
-      one-salt = same-equal _ _ s.0;
-      outer-block = eqb-true _ _ u.0;
-      inner-more = leb-true _ _ x.0;
-      inner-whole = eqb-true _ _ x.1;
+      inner_is = p.0;
+      outer_is = q.0;
+      inner_mode = double_pipe _ v.0;
+      outer_mode = double_pipe _ w.0;
+      one_length = eqb-true _ _ r.0;
+      one_salt = same_equal _ _ s.0;
+      outer_block = eqb-true _ _ u.0;
+      inner_more = leb-true _ _ x.0;
+      inner_whole = eqb-true _ _ x.1;
     }
 
-pub fits-tag : (t : TagSession) → TagFits t → isTagSession t ≡ true
-fits-tag t F =
-    sym (counts-decide t true (sym F.inner-is) refl true (sym F.outer-is) refl true
-    (sym (ap isDoublePipe F.inner-mode)) refl true (sym (ap isDoublePipe F.outer-mode)) refl F.one-length true
-    (sym (ap (same t.inner.salt) (sym F.one-salt) ∙ same_self t.inner.salt)) refl true counts)
+pub fits_tag : (t : TagSession) → TagFits t → is_tag_session t ≡ true
+fits_tag t F =
+    sym (counts_decide t true (sym F.inner_is) refl true (sym F.outer_is) refl true
+    (sym (ap is_double_pipe F.inner_mode)) refl true (sym (ap is_double_pipe F.outer_mode)) refl F.one_length true
+    (sym (ap (same t.inner.salt) (sym F.one_salt) ∙ same_self t.inner.salt)) refl true counts)
   where
-    counts : true ≡ countsFit t.inner.taken t.outer.taken t.outer.bits
+    counts : true ≡ counts_fit t.inner.taken t.outer.taken t.outer.bits
     counts =
-        sym (eq-eqb (t.inner.taken % 8) 0 F.inner-whole)
-        ∙ right-count t.inner.taken t.outer.taken t.outer.bits _ refl F.outer-block F.inner-more
+        sym (eq-eqb (t.inner.taken % 8) 0 F.inner_whole)
+        ∙ right_count t.inner.taken t.outer.taken t.outer.bits _ refl F.outer_block F.inner_more
 
 -- ---- adding
 
-module _ (t : TagSession) (piece : List ℕ) (a : Bool) (e : a ≡ isTagSession t) where
-  pub added-to-none : not a ≡ true → ◌≡◌ {A = TagAnswer} (record { refusal = 3; session = t }) (addTagAnswer t piece)
-  unfolding addTagAnswer addTagRefusal
-  added-to-none fails = rw (← e, not-true a fails)
+module _ (t : TagSession) (piece : List ℕ) (a : Bool) (e : a ≡ is_tag_session t) where
+  pub added_to_none : not a ≡ true → ◌≡◌ {A = TagAnswer} (record { refusal = 3; session = t }) (add_tag_answer t piece)
+  unfolding add_tag_answer add_tag_refusal
+  added_to_none fails = rw (← e, not-true a fails)
 
-  pub added-to-inner : not a ≡ false → (x : Answer) → x ≡ addAnswer t.inner piece
-      → ◌≡◌ {A = TagAnswer} (record { refusal = x.refusal; session = record { inner = x.session; outer = t.outer } }) (addTagAnswer t piece)
-  unfolding addTagAnswer addTagRefusal addTagBytes
-  added-to-inner holds x d = by (ltb bitLimit (t.inner.taken + 8 * length piece)) refl
+  pub added_to_inner : not a ≡ false → (x : Answer) → x ≡ add_answer t.inner piece
+      → ◌≡◌ {A = TagAnswer} (record { refusal = x.refusal; session = record { inner = x.session; outer = t.outer } }) (add_tag_answer t piece)
+  unfolding add_tag_answer add_tag_refusal add_tag_bytes
+  added_to_inner holds x d = by (ltb bit_limit (t.inner.taken + 8 * length piece)) refl
     where
       F : TagFits t
       F = tag_fits t (sym e ∙ not-false a holds)
 
-      by : (b : Bool) → ltb bitLimit (t.inner.taken + 8 * length piece) ≡ b
-          → ◌≡◌ {A = TagAnswer} (record { refusal = x.refusal; session = record { inner = x.session; outer = t.outer } }) (addTagAnswer t piece)
+      by : (b : Bool) → ltb bit_limit (t.inner.taken + 8 * length piece) ≡ b
+          → ◌≡◌ {A = TagAnswer} (record { refusal = x.refusal; session = record { inner = x.session; outer = t.outer } }) (add_tag_answer t piece)
       by true p =
-          rw (← e, not-false a holds, p, d, refuses-bytes t.inner piece F.inner-is (ltb-true bitLimit (t.inner.taken + 8 * length piece) p))
+          rw (← e, not-false a holds, p, d, refuses_bytes t.inner piece F.inner_is (ltb-true bit_limit (t.inner.taken + 8 * length piece) p))
       by false p =
-          let short = ltb-false bitLimit (t.inner.taken + 8 * length piece) p in
-          rw (← e, not-false a holds, p, d, takes-bytes t.inner piece F.inner-is F.inner-whole short)
+          let short = ltb-false bit_limit (t.inner.taken + 8 * length piece) p in
+          rw (← e, not-false a holds, p, d, takes_bytes t.inner piece F.inner_is F.inner_whole short)
 
 -- ---- the outer session with the digest of the inner one
 
-bits_most : (s : Session) → isSession s ≡ true → s.bits ≤ 512
-bits_most s is = ((admitted-exactly s.bits).0 (session-admits s is)).1
+bits_most : (s : Session) → is_session s ≡ true → s.bits ≤ 512
+bits_most s is = ((admitted_exactly s.bits).0 (session_admits s is)).1
 
 -- the digest of any session fits 64 bytes
-digest-within : (s : Session) → isSession s ≡ true → (d : List ℕ) → length d ≡ 64 → s.bits / 8 ≤ length d
-digest-within s is d l = omega (arith, bits_most s is)
+digest_within : (s : Session) → is_session s ≡ true → (d : List ℕ) → length d ≡ 64 → s.bits / 8 ≤ length d
+digest_within s is d l = omega (arith, bits_most s is)
 
-digest-count : (s : Session) → isSession s ≡ true → (d : List ℕ) → length d ≡ 64 → s.bits / 8 ≡ length (take (s.bits / 8) d)
-digest-count s is d l = sym (length-take-le (s.bits / 8) d (digest-within s is d l))
+digest_count : (s : Session) → is_session s ≡ true → (d : List ℕ) → length d ≡ 64 → s.bits / 8 ≡ length (take (s.bits / 8) d)
+digest_count s is d l = sym (length-take-le (s.bits / 8) d (digest_within s is d l))
 
 -- a digest that was read into 64 bytes
-digest-read : (s : Session) → isSession s ≡ true → take (s.bits / 8) (readLeaves s (replicate 64 0)) ≡ sessionDigest s
-digest-read s is =
+digest_read : (s : Session) → is_session s ≡ true → take (s.bits / 8) (read_leaves s (replicate 64 0)) ≡ session_digest s
+digest_read s is =
     let most = bits_most s is in
-    ap (take (s.bits / 8)) (reads-room s (replicate 64 0) is (omega (arith, most))).1
-    ∙ take_at (sessionDigest s) _ (s.bits / 8) (session-digest-long s most)
+    ap (take (s.bits / 8)) (reads_room s (replicate 64 0) is (omega (arith, most))).1
+    ∙ take_at (session_digest s) _ (s.bits / 8) (session_digest_long s most)
 
-module _ (t : TagSession) (is : isTagSession t ≡ true) where
+module _ (t : TagSession) (is : is_tag_session t ≡ true) where
   fits : TagFits t
   fits = tag_fits t is
 
   most : t.inner.bits ≤ 512
-  most = bits_most t.inner fits.inner-is
+  most = bits_most t.inner fits.inner_is
 
-  pub inner-digest-within : (d : List ℕ) → length d ≡ 64 → t.inner.bits / 8 ≤ length d
-  inner-digest-within = digest-within t.inner fits.inner-is
+  pub inner_digest_within : (d : List ℕ) → length d ≡ 64 → t.inner.bits / 8 ≤ length d
+  inner_digest_within = digest_within t.inner fits.inner_is
 
-  pub inner-digest-count : (d : List ℕ) → length d ≡ 64 → t.inner.bits / 8 ≡ length (take (t.inner.bits / 8) d)
-  inner-digest-count = digest-count t.inner fits.inner-is
+  pub inner_digest_count : (d : List ℕ) → length d ≡ 64 → t.inner.bits / 8 ≡ length (take (t.inner.bits / 8) d)
+  inner_digest_count = digest_count t.inner fits.inner_is
 
-  inner-digest-long : length (sessionDigest t.inner) ≡ t.inner.bits / 8
-  inner-digest-long = session-digest-long t.inner most
+  inner_digest_long : length (session_digest t.inner) ≡ t.inner.bits / 8
+  inner_digest_long = session_digest_long t.inner most
 
-  outer-whole : t.outer.taken % 8 ≡ 0
-  outer-whole = omega (arith, fits.outer-block)
+  outer_whole : t.outer.taken % 8 ≡ 0
+  outer_whole = omega (arith, fits.outer_block)
 
-  outer-room : t.outer.taken + 8 * length (sessionDigest t.inner) ≤ bitLimit
-  outer-room = let S = double-block t.outer.bits in omega (arith, most, inner-digest-long, fits.outer-block)
+  outer_room : t.outer.taken + 8 * length (session_digest t.inner) ≤ bit_limit
+  outer_room = let S = double_block t.outer.bits in omega (arith, most, inner_digest_long, fits.outer_block)
 
-  pub closes : (d : List ℕ) → d ≡ readLeaves t.inner (replicate 64 0) → (x : Answer) → x ≡ addAnswer t.outer (take (t.inner.bits / 8) d)
-      → x.session ≡ closedBy t
-  unfolding closedBy
+  pub closes : (d : List ℕ) → d ≡ read_leaves t.inner (replicate 64 0) → (x : Answer) → x ≡ add_answer t.outer (take (t.inner.bits / 8) d)
+      → x.session ≡ closed_by t
+  unfolding closed_by
   closes d e x y =
       ap (λ (z : Answer). z.session)
       (y
-      ∙ ap (λ (l : List ℕ). addAnswer t.outer (take (t.inner.bits / 8) l)) e
-      ∙ ap (addAnswer t.outer) (digest-read t.inner fits.inner-is)
-      ∙ takes-bytes t.outer (sessionDigest t.inner) fits.outer-is outer-whole outer-room)
+      ∙ ap (λ (l : List ℕ). add_answer t.outer (take (t.inner.bits / 8) l)) e
+      ∙ ap (add_answer t.outer) (digest_read t.inner fits.inner_is)
+      ∙ takes_bytes t.outer (session_digest t.inner) fits.outer_is outer_whole outer_room)
 
-  pub closed-bits : (closedBy t).bits ≡ t.outer.bits
-  unfolding closedBy
-  closed-bits = (add-keeps t.outer (sessionDigest t.inner)).0
+  pub closed_bits : (closed_by t).bits ≡ t.outer.bits
+  unfolding closed_by
+  closed_bits = (add_keeps t.outer (session_digest t.inner)).0
 
-  pub closed-is-session : isSession (closedBy t) ≡ true
-  unfolding closedBy
-  closed-is-session = add-is-session t.outer (sessionDigest t.inner) fits.outer-is outer-whole outer-room
+  pub closed_is_session : is_session (closed_by t) ≡ true
+  unfolding closed_by
+  closed_is_session = add_is_session t.outer (session_digest t.inner) fits.outer_is outer_whole outer_room
 
 -- ---- reading and checking
 
-module _ (t : TagSession) (room : List ℕ) (a : Bool) (e : a ≡ isTagSession t) where
-  pub read_none : not a ≡ true → ◌≡◌ {A = TagAnswer} (record { refusal = 3; session = t }) (readTagAnswer t (length room))
-  unfolding readTagAnswer readTagRefusal
+module _ (t : TagSession) (room : List ℕ) (a : Bool) (e : a ≡ is_tag_session t) where
+  pub read_none : not a ≡ true → ◌≡◌ {A = TagAnswer} (record { refusal = 3; session = t }) (read_tag_answer t (length room))
+  unfolding read_tag_answer read_tag_refusal
   read_none fails = rw (← e, not-true a fails)
 
-  pub left-none : not a ≡ true → room ≡ readTagLeaves t room
-  unfolding readTagLeaves readTagRefusal
-  left-none fails = rw (← e, not-true a fails)
+  pub left_none : not a ≡ true → room ≡ read_tag_leaves t room
+  unfolding read_tag_leaves read_tag_refusal
+  left_none fails = rw (← e, not-true a fails)
 
-  pub checked-none : not a ≡ true → ◌≡◌ {A = Checking} (record { refusal = 3; yes = false; session = t }) (checkTagAnswer t room)
-  unfolding checkTagAnswer checkTagRefusal
-  checked-none fails = rw (← e, not-true a fails)
+  pub checked_none : not a ≡ true → ◌≡◌ {A = Checking} (record { refusal = 3; yes = false; session = t }) (check_tag_answer t room)
+  unfolding check_tag_answer check_tag_refusal
+  checked_none fails = rw (← e, not-true a fails)
 
 -- c is the outer session with the digest of the inner one, of a record that the code found to be a tag session by the test a
-module _ (t : TagSession) (a : Bool) (e : a ≡ isTagSession t) (holds : not a ≡ false) where
-  pub is-tag : isTagSession t ≡ true
-  is-tag = sym e ∙ not-false a holds
+module _ (t : TagSession) (a : Bool) (e : a ≡ is_tag_session t) (holds : not a ≡ false) where
+  pub is_tag : is_tag_session t ≡ true
+  is_tag = sym e ∙ not-false a holds
 
-  module _ (c : Session) (d : c ≡ closedBy t) where
-    is : isSession c ≡ true
-    is = ap isSession d ∙ closed-is-session t is-tag
+  module _ (c : Session) (d : c ≡ closed_by t) where
+    is : is_session c ≡ true
+    is = ap is_session d ∙ closed_is_session t is_tag
 
     size : c.bits / 8 ≡ t.outer.bits / 8
-    size = ap (λ (s : Session). s.bits / 8) d ∙ ap (λ (n : ℕ). n / 8) (closed-bits t is-tag)
+    size = ap (λ (s : Session). s.bits / 8) d ∙ ap (λ (n : ℕ). n / 8) (closed_bits t is_tag)
 
     module _ (room : List ℕ) where
-      pub read-closed : (x : Answer) → x ≡ readAnswer c (length room)
-          → ◌≡◌ {A = TagAnswer} (record { refusal = x.refusal; session = t }) (readTagAnswer t (length room))
-      unfolding readTagAnswer readTagRefusal
-      read-closed x r = by (ltb (length room) (t.outer.bits / 8)) refl
+      pub read_closed : (x : Answer) → x ≡ read_answer c (length room)
+          → ◌≡◌ {A = TagAnswer} (record { refusal = x.refusal; session = t }) (read_tag_answer t (length room))
+      unfolding read_tag_answer read_tag_refusal
+      read_closed x r = by (ltb (length room) (t.outer.bits / 8)) refl
         where
           by : (b : Bool) → ltb (length room) (t.outer.bits / 8) ≡ b
-              → ◌≡◌ {A = TagAnswer} (record { refusal = x.refusal; session = t }) (readTagAnswer t (length room))
-          by true p = rw (is-tag, p, r, (refuses-room c room is (omega (arith, size, ltb-true (length room) (t.outer.bits / 8) p))).0)
-          by false p = rw (is-tag, p, r, (reads-room c room is (omega (arith, size, ltb-false (length room) (t.outer.bits / 8) p))).0)
+              → ◌≡◌ {A = TagAnswer} (record { refusal = x.refusal; session = t }) (read_tag_answer t (length room))
+          by true p = rw (is_tag, p, r, (refuses_room c room is (omega (arith, size, ltb-true (length room) (t.outer.bits / 8) p))).0)
+          by false p = rw (is_tag, p, r, (reads_room c room is (omega (arith, size, ltb-false (length room) (t.outer.bits / 8) p))).0)
 
-      pub left-closed : (u : List ℕ) → u ≡ readLeaves c room → u ≡ readTagLeaves t room
-      unfolding readTagLeaves readTagRefusal sessionTag
-      left-closed u l = by (ltb (length room) (t.outer.bits / 8)) refl
+      pub left_closed : (u : List ℕ) → u ≡ read_leaves c room → u ≡ read_tag_leaves t room
+      unfolding read_tag_leaves read_tag_refusal session_tag
+      left_closed u l = by (ltb (length room) (t.outer.bits / 8)) refl
         where
-          by : (b : Bool) → ltb (length room) (t.outer.bits / 8) ≡ b → u ≡ readTagLeaves t room
-          by true p = rw (is-tag, p) (l ∙ (refuses-room c room is (omega (arith, size, ltb-true (length room) (t.outer.bits / 8) p))).1)
+          by : (b : Bool) → ltb (length room) (t.outer.bits / 8) ≡ b → u ≡ read_tag_leaves t room
+          by true p = rw (is_tag, p) (l ∙ (refuses_room c room is (omega (arith, size, ltb-true (length room) (t.outer.bits / 8) p))).1)
           by false p =
-              rw (is-tag, p)
+              rw (is_tag, p)
               (l
-              ∙ (reads-room c room is (omega (arith, size, ltb-false (length room) (t.outer.bits / 8) p))).1
-              ∙ ap₂ (λ (s : Session) (n : ℕ). sessionDigest s ++ drop n room) d size)
+              ∙ (reads_room c room is (omega (arith, size, ltb-false (length room) (t.outer.bits / 8) p))).1
+              ∙ ap₂ (λ (s : Session) (n : ℕ). session_digest s ++ drop n room) d size)
 
-    pub own-tag-within : (own : List ℕ) → length own ≡ 64 → c.bits / 8 ≤ length own
-    own-tag-within = digest-within c is
+    pub own_tag_within : (own : List ℕ) → length own ≡ 64 → c.bits / 8 ≤ length own
+    own_tag_within = digest_within c is
 
-    pub own-tag-count : (own : List ℕ) → length own ≡ 64 → c.bits / 8 ≡ length (take (c.bits / 8) own)
-    own-tag-count = digest-count c is
+    pub own_tag_count : (own : List ℕ) → length own ≡ 64 → c.bits / 8 ≡ length (take (c.bits / 8) own)
+    own_tag_count = digest_count c is
 
-    pub checked-closed : (own tag : List ℕ) → own ≡ readLeaves c (replicate 64 0) → (says : Bool) → says ≡ same (take (c.bits / 8) own) tag
-        → ◌≡◌ {A = Checking} (record { refusal = 0; yes = says; session = t }) (checkTagAnswer t tag)
-    unfolding checkTagAnswer checkTagRefusal sessionTag
-    checked-closed own tag l says y =
-        rw (is-tag, y, ap (take (c.bits / 8)) l, digest-read c is, d)
+    pub checked_closed : (own tag : List ℕ) → own ≡ read_leaves c (replicate 64 0) → (says : Bool) → says ≡ same (take (c.bits / 8) own) tag
+        → ◌≡◌ {A = Checking} (record { refusal = 0; yes = says; session = t }) (check_tag_answer t tag)
+    unfolding check_tag_answer check_tag_refusal session_tag
+    checked_closed own tag l says y =
+        rw (is_tag, y, ap (take (c.bits / 8)) l, digest_read c is, d)

@@ -4,12 +4,12 @@ use mathlib.Core.Bool.{Bool, true, false, not}
 use mathlib.Core.List.{List, [], ◌∷◌}
 use Prim.Native.Nat.{ℕ}
 use lib.ListN.{length}
-use Rattle.echo.specs.Refusals.{◌when◌, first_of, noSalt, unless}
+use Rattle.echo.specs.Refusals.{◌when◌, first_of, no_salt, unless}
 use Rattle.echo.specs.Session.{admitted}
 use Rattle.echo.proofs.Promises.{done, kept}
 use Rattle.hmac.specs.declared.at_once.Verdict.{Verdict}
 use Rattle.hmac.specs.Hmac.{tag_of}
-use Rattle.hmac.specs.Routines.{checkAnswer, checkRefusal, tooLong, verifyRefusal}
+use Rattle.hmac.specs.Routines.{check_answer, check_refusal, too_long, verify_refusal}
 use Rattle.hmac.specs.Same.{same}
 
 -- where a check gives r, and a tag is the message's or not
@@ -26,32 +26,32 @@ behind false false false right = refl
 
 module _ (h : ℕ) (salt key message tag : List ℕ) where
   abbrev checked : ℕ
-  checked = checkRefusal h (length salt) (length key) (length message)
+  checked = check_refusal h (length salt) (length key) (length message)
 
   abbrev right : Bool
   right = same (tag_of h salt key message) tag
 
-  pub verify-number : verifyRefusal h salt key message tag ≡ followed checked right
-  unfolding verifyRefusal checkRefusal
-  verify-number = behind (not (admitted h)) (noSalt (length salt)) (tooLong h (length key) (length message)) right
+  pub verify_number : verify_refusal h salt key message tag ≡ followed checked right
+  unfolding verify_refusal check_refusal
+  verify_number = behind (not (admitted h)) (no_salt (length salt)) (too_long h (length key) (length message)) right
 
-  module _ (v : Verdict) (e : v ≡ checkAnswer h salt key message tag) where
+  module _ (v : Verdict) (e : v ≡ check_answer h salt key message tag) where
     number : v.refusal ≡ checked
-    unfolding checkAnswer
+    unfolding check_answer
     number = ap (λ (x : Verdict). x.refusal) e
 
     says : v.refusal ≡ 0 → v.yes ≡ right
-    unfolding checkAnswer
+    unfolding check_answer
     says z = ap (λ (x : Verdict). x.yes) e ∙ done checked right false (sym number ∙ z)
 
-    told : v.refusal ≡ 0 → (t : Bool) → v.yes ≡ t → verifyRefusal h salt key message tag ≡ first_of ((19 when not t) ∷ [])
-    told z t y = verify-number ∙ done checked _ _ (sym number ∙ z) ∙ ap (λ (b : Bool). first_of ((19 when not b) ∷ [])) (sym (says z) ∙ y)
+    told : v.refusal ≡ 0 → (t : Bool) → v.yes ≡ t → verify_refusal h salt key message tag ≡ first_of ((19 when not t) ∷ [])
+    told z t y = verify_number ∙ done checked _ _ (sym number ∙ z) ∙ ap (λ (b : Bool). first_of ((19 when not b) ∷ [])) (sym (says z) ∙ y)
 
-    pub verify-refused : (v.refusal ≡ 0 → ⊥) → v.refusal ≡ verifyRefusal h salt key message tag
-    verify-refused n = number ∙ sym (kept checked _ checked (λ z. n (number ∙ z))) ∙ sym verify-number
+    pub verify_refused : (v.refusal ≡ 0 → ⊥) → v.refusal ≡ verify_refusal h salt key message tag
+    verify_refused n = number ∙ sym (kept checked _ checked (λ z. n (number ∙ z))) ∙ sym verify_number
 
-    pub verify-right : v.refusal ≡ 0 → v.yes ≡ true → 0 ≡ verifyRefusal h salt key message tag
-    verify-right z y = sym (told z true y)
+    pub verify_right : v.refusal ≡ 0 → v.yes ≡ true → 0 ≡ verify_refusal h salt key message tag
+    verify_right z y = sym (told z true y)
 
-    pub verify-wrong : v.refusal ≡ 0 → v.yes ≡ false → 19 ≡ verifyRefusal h salt key message tag
-    verify-wrong z y = sym (told z false y)
+    pub verify_wrong : v.refusal ≡ 0 → v.yes ≡ false → 19 ≡ verify_refusal h salt key message tag
+    verify_wrong z y = sym (told z false y)

@@ -4,14 +4,14 @@ use mathlib.Core.Path.{◌≡◌, ◌∙◌, sym}
 use Prim.Native.Nat.{ℕ, ◌-◌, ◌≤◌, ◌<◌}
 use native.Mathlib.Omega.{arith}
 use lib.ListN.{length}
-use Rattle.steering.specs.Reading.{readAt}
+use Rattle.steering.specs.Reading.{read_at}
 use Rattle.steering.specs.declared.reading.Reading.{Reading}
 use Rattle.steering.specs.declared.reading.Reading.TheVariants.{Found}
 use Rattle.steering.specs.declared.records.Record.{Record}
 use Rattle.steering.proofs.Promises.{found_within}
 
 module _ (table : List ℕ) (place : ℕ) (x : Reading) (record-read : Record) (next : ℕ)
-    (is : x ≡ Found record-read next) (read : x ≡ readAt table place) where
+    (is : x ≡ Found record-read next) (read : x ≡ read_at table place) where
   within : (place < next) × (next ≤ length table)
   within = found_within table place record-read next (sym is ∙ read)
 
@@ -24,5 +24,5 @@ module _ (table : List ℕ) (place : ℕ) (x : Reading) (record-read : Record) (
   pub in_table : next ≤ length table
   in_table = within.1
 
-  pub less-left : length table - next < length table - place
-  less-left = omega (arith, within.0, within.1)
+  pub less_left : length table - next < length table - place
+  less_left = omega (arith, within.0, within.1)

@@ -12,15 +12,15 @@ use lib.Dec.{eqb, lit<, ltb}
 use lib.ListN.{drop, get_or, length, length-append, length-drop, length-take, take}
 use lib.Seq.{drop-cons, drop-length, get_or-append-add}
 use Rattle.steering.specs.Numbers.{AreBytes, either, number_at}
-use Rattle.steering.specs.Parsing.{AllFit, Parsed, accepted, goOn, inFront, parse, parseFrom, refused, table_of}
-use Rattle.steering.specs.Reading.{readAt}
-use Rattle.steering.specs.Records.{Fits, bodyLength, body_of, kind_of, recordOf}
+use Rattle.steering.specs.Parsing.{AllFit, Parsed, accepted, go_on, in_front, parse, parse_from, refused, table_of}
+use Rattle.steering.specs.Reading.{read_at}
+use Rattle.steering.specs.Records.{Fits, body_length, body_of, kind_of, record_of}
 use Rattle.steering.specs.declared.reading.Reading.{Reading}
 use Rattle.steering.specs.declared.reading.Reading.TheVariants.{End, Found, Refused}
 use Rattle.steering.specs.declared.records.Record.{Record}
-use Rattle.steering.proofs.Laws.Complete.{all-refused, allInFront, complete, parse-through}
+use Rattle.steering.proofs.Laws.Complete.{all_refused, all_in_front, complete, parse_through}
 use Rattle.steering.proofs.Laws.Numbers.{below, bytes_drop, bytes_take}
-use Rattle.steering.proofs.Laws.Reading.{Why, cut_short, ended, found, stopped, too_long, unknown-kind}
+use Rattle.steering.proofs.Laws.Reading.{Why, cut_short, ended, found, stopped, too_long, unknown_kind}
 use Rattle.steering.proofs.Laws.Tables.{begins, there}
 
 -- ---- a record that was read fits its fields
@@ -31,17 +31,17 @@ number_fits n at body b =
     let short : length part ≤ n = omega (arith, length-take n (drop at body)) in
     omega (arith, below part (bytes_take n (drop at body) (bytes_drop at body b)), pow-le-pow_right {n = 256} (lit< tt) short)
 
-either-fits : (t : Bool) (r s : Record) → Fits r → Fits s → Fits (either t r s)
-either-fits true r s p q = p
-either-fits false r s p q = q
+either_fits : (t : Bool) (r s : Record) → Fits r → Fits s → Fits (either t r s)
+either_fits true r s p q = p
+either_fits false r s p q = q
 
-pub record-fits : (kind : ℕ) (body : List ℕ) → AreBytes body → Fits (recordOf kind body)
-unfolding recordOf
-record-fits kind body b =
-    either-fits (eqb kind 1) _ _ (number_fits 6 0 body b)
-    (either-fits (eqb kind 2) _ _ (number_fits 2 0 body b)
-    (either-fits (eqb kind 3) _ _ (number_fits 2 0 body b)
-    (either-fits (eqb kind 4) _ _ (number_fits 4 0 body b)
+pub record_fits : (kind : ℕ) (body : List ℕ) → AreBytes body → Fits (record_of kind body)
+unfolding record_of
+record_fits kind body b =
+    either_fits (eqb kind 1) _ _ (number_fits 6 0 body b)
+    (either_fits (eqb kind 2) _ _ (number_fits 2 0 body b)
+    (either_fits (eqb kind 3) _ _ (number_fits 2 0 body b)
+    (either_fits (eqb kind 4) _ _ (number_fits 4 0 body b)
     (number_fits 8 0 body b, number_fits 8 8 body b, number_fits 8 16 body b, number_fits 8 24 body b))))
 
 -- ---- what a parse comes to, from a place on
@@ -60,25 +60,25 @@ abbrev Outcome : List ℕ → ℕ → Parsed → Type 0
 Outcome t place (accepted rs) = (drop place t ≡ table_of rs) × AllFit rs
 Outcome t place (refused number at) = Stopped t place number at
 
-module _ (t : List ℕ) (b : AreBytes t) (place next : ℕ) (r : Record) (e : Found r next ≡ readAt t place) where
-  pub found-fits : Fits r
-  found-fits =
+module _ (t : List ℕ) (b : AreBytes t) (place next : ℕ) (r : Record) (e : Found r next ≡ read_at t place) where
+  pub found_fits : Fits r
+  found_fits =
       let H = found t place r next e in
-      let n = bodyLength (get_or t place 0) in
+      let n = body_length (get_or t place 0) in
       let body = take n (drop (place + 1) t) in
-      subst Fits (sym H.record_is) (record-fits (get_or t place 0) body (bytes_take n (drop (place + 1) t) (bytes_drop (place + 1) t b)))
+      subst Fits (sym H.record_is) (record_fits (get_or t place 0) body (bytes_take n (drop (place + 1) t) (bytes_drop (place + 1) t b)))
 
-  pub stands-there : (kind_of r ≡ get_or t place 0) × (body_of r ≡ take (next - (place + 1)) (drop (place + 1) t)) × Fits r
-  stands-there = let T = there t b place next r e in (T.kind-is, T.body_is, found-fits)
+  pub stands_there : (kind_of r ≡ get_or t place 0) × (body_of r ≡ take (next - (place + 1)) (drop (place + 1) t)) × Fits r
+  stands_there = let T = there t b place next r e in (T.kind_is, T.body_is, found_fits)
 
 module _ (t : List ℕ) (b : AreBytes t) (short : length t ≤ 4096) where
-  module _ (place next : ℕ) (r : Record) (e : Found r next ≡ readAt t place) where
+  module _ (place next : ℕ) (r : Record) (e : Found r next ≡ read_at t place) where
     fits : Fits r
-    fits = found-fits t b place next r e
+    fits = found_fits t b place next r e
 
-    in-front : (q : Parsed) → Outcome t next q → Outcome t place (inFront r q)
-    in-front (accepted rs) o = (begins t b place next r e ∙ ap (λ (l : List ℕ). kind_of r ∷ body_of r ++ l) o.0, (fits, o.1))
-    in-front (refused number at) o =
+    in_front_lem : (q : Parsed) → Outcome t next q → Outcome t place (in_front r q)
+    in_front_lem (accepted rs) o = (begins t b place next r e ∙ ap (λ (l : List ℕ). kind_of r ∷ body_of r ++ l) o.0, (fits, o.1))
+    in_front_lem (refused number at) o =
         let H = found t place r next e in
         let long = ap length (begins t b place next r e) in
         record {
@@ -94,7 +94,7 @@ module _ (t : List ℕ) (b : AreBytes t) (short : length t ≤ 4096) where
             arith,
             o.there,
             H.in_table,
-            H.next-is,
+            H.next_is,
             long,
             length-drop place t,
             length-drop next t,
@@ -106,11 +106,11 @@ module _ (t : List ℕ) (b : AreBytes t) (short : length t ≤ 4096) where
 
   -- one reading more, where what follows each next place is known
   one_more : (n place : ℕ) → place ≤ length t → length t < place + suc n
-      → ((next : ℕ) → next ≤ length t → length t < next + n → Outcome t next (parseFrom n t next))
-      → (x : Reading) → x ≡ readAt t place → Outcome t place (goOn x (parseFrom n t))
+      → ((next : ℕ) → next ≤ length t → length t < next + n → Outcome t next (parse_from n t next))
+      → (x : Reading) → x ≡ read_at t place → Outcome t place (go_on x (parse_from n t))
   one_more n place within fuel again (Found r next) e =
       let H = found t place r next e in
-      in-front place next r e (parseFrom n t next) (again next (omega (arith, H.in_table, H.next-is)) (omega (arith, H.next-is)))
+      in_front_lem place next r e (parse_from n t next) (again next (omega (arith, H.in_table, H.next_is)) (omega (arith, H.next_is)))
   one_more n place within fuel again End e = (ap (λ (j : ℕ). drop j t) (ended t place e) ∙ drop-length t, tt)
   one_more n place within fuel again (Refused number at) e =
       let S = stopped t place within short number at e in
@@ -120,20 +120,20 @@ module _ (t : List ℕ) (b : AreBytes t) (short : length t ≤ 4096) where
         rest = drop (place + 1) t;
         fit = tt;
         splits = drop-cons t place 0 S.inside ∙ ap (λ (k : ℕ). get_or t place 0 ∷ drop k t) (sym (add-one place));
-        there = omega (arith, S.at-kind);
+        there = omega (arith, S.at_kind);
         why = S.why;
       }
 
-  outcome : (n place : ℕ) → place ≤ length t → length t < place + n → Outcome t place (parseFrom n t place)
-  unfolding parseFrom
+  outcome : (n place : ℕ) → place ≤ length t → length t < place + n → Outcome t place (parse_from n t place)
+  unfolding parse_from
   outcome zero place within fuel = absurd (omega arith)
-  outcome (suc n) place within fuel = one_more n place within fuel (λ next w f. outcome n next w f) (readAt t place) refl
+  outcome (suc n) place within fuel = one_more n place within fuel (λ next w f. outcome n next w f) (read_at t place) refl
 
 -- ---- whole tables
 
-pub too-long-8 : (t : List ℕ) → 4096 < length t → parse t ≡ refused 8 0
-unfolding parseFrom
-too-long-8 t h = ap (λ (x : Reading). goOn x (parseFrom (length t) t)) (sym (too_long t 0 (omega arith) h))
+pub too_long_8 : (t : List ℕ) → 4096 < length t → parse t ≡ refused 8 0
+unfolding parse_from
+too_long_8 t h = ap (λ (x : Reading). go_on x (parse_from (length t) t)) (sym (too_long t 0 (omega arith) h))
 
 -- a byte that is refused behind some records
 module _ (rs : List Record) (kind : ℕ) (rest : List ℕ) (f : AllFit rs) where
@@ -146,24 +146,24 @@ module _ (rs : List Record) (kind : ℕ) (rest : List ℕ) (f : AllFit rs) where
   long : length t ≡ at + suc (length rest)
   long = length-append (table_of rs) (kind ∷ rest)
 
-  kind-there : get_or t at 0 ≡ kind
-  kind-there = ap (λ (k : ℕ). get_or t k 0) (omega arith) ∙ get_or-append-add (table_of rs) (kind ∷ rest) 0 0
+  kind_there : get_or t at 0 ≡ kind
+  kind_there = ap (λ (k : ℕ). get_or t k 0) (omega arith) ∙ get_or-append-add (table_of rs) (kind ∷ rest) 0 0
 
   inside : at ≡ length t → ⊥
   inside e = omega (arith, long, e)
 
-  stops : (number : ℕ) → length t ≤ 4096 → Refused number at ≡ readAt t at → parse t ≡ refused number at
-  unfolding parseFrom
+  stops : (number : ℕ) → length t ≤ 4096 → Refused number at ≡ read_at t at → parse t ≡ refused number at
+  unfolding parse_from
   stops number h e =
-      let T = parse-through rs (kind ∷ rest) f h in
-      T.1 ∙ ap (λ (x : Reading). allInFront rs (goOn x (parseFrom T.0 t))) (sym e) ∙ all-refused rs number at
+      let T = parse_through rs (kind ∷ rest) f h in
+      T.1 ∙ ap (λ (x : Reading). all_in_front rs (go_on x (parse_from T.0 t))) (sym e) ∙ all_refused rs number at
 
-  stops-9 : bodyLength kind ≡ 0 → length t ≤ 4096 → parse t ≡ refused 9 at
-  stops-9 z h = stops 9 h (unknown-kind t at (omega (arith, long)) h inside _ refl (ap bodyLength kind-there ∙ z))
+  stops_9 : body_length kind ≡ 0 → length t ≤ 4096 → parse t ≡ refused 9 at
+  stops_9 z h = stops 9 h (unknown_kind t at (omega (arith, long)) h inside _ refl (ap body_length kind_there ∙ z))
 
-  stops-10 : 0 < bodyLength kind → length rest < bodyLength kind → length t ≤ 4096 → parse t ≡ refused 10 at
-  stops-10 k few h =
-      let same = ap bodyLength kind-there in
+  stops_10 : 0 < body_length kind → length rest < body_length kind → length t ≤ 4096 → parse t ≡ refused 10 at
+  stops_10 k few h =
+      let same = ap body_length kind_there in
       stops 10 h (cut_short t at (omega (arith, long)) h inside _ refl (λ z. omega (arith, same)) (omega (arith, long, same)))
 
 -- the bytes of some records and then a byte that stops there, with a reason that its kind and the bytes behind it give
@@ -186,14 +186,14 @@ module _ (t : List ℕ) (b : AreBytes t) where
       (by (ltb 4096 (length t)) refl)
     where
       long : 4096 < length t → ((4096 < length t) × (refused 8 0 ≡ q)) ⊎ ((length t ≤ 4096) × Outcome t 0 q)
-      long h = inl (h, sym (too-long-8 t h) ∙ e)
+      long h = inl (h, sym (too_long_8 t h) ∙ e)
 
       by : (x : Bool) → ltb 4096 (length t) ≡ x → (4096 < length t) ⊎ (length t ≤ 4096)
       by true p = inl (ltb-true 4096 (length t) p)
       by false p = inr (ltb-false 4096 (length t) p)
 
-  pub accepted-exactly : (rs : List Record) → (parse t ≡ accepted rs) ↔ ((t ≡ table_of rs) × AllFit rs × (length t ≤ 4096))
-  accepted-exactly rs = (there, back)
+  pub accepted_exactly : (rs : List Record) → (parse t ≡ accepted rs) ↔ ((t ≡ table_of rs) × AllFit rs × (length t ≤ 4096))
+  accepted_exactly rs = (there, back)
     where
       there : parse t ≡ accepted rs → (t ≡ table_of rs) × AllFit rs × (length t ≤ 4096)
       there e =
@@ -205,17 +205,17 @@ module _ (t : List ℕ) (b : AreBytes t) where
       back p = ap parse p.0 ∙ complete rs p.1 (subst (λ (u : List ℕ). length u ≤ 4096) p.0 p.2)
 
   -- no other number, and 8 for no other reason: the parse has fuel enough
-  pub refused-8-exactly : (parse t ≡ refused 8 0) ↔ (4096 < length t)
-  refused-8-exactly = (
+  pub refused_8_exactly : (parse t ≡ refused 8 0) ↔ (4096 < length t)
+  refused_8_exactly = (
     λ (e : parse t ≡ refused 8 0).
         ⊎_elim (λ (o : (4096 < length t) × (refused 8 0 ≡ refused 8 0)). o.0)
-        (λ (o : (length t ≤ 4096) × Stopped t 0 8 0). absurd (not-8 o.1.kind o.1.rest o.1.why))
+        (λ (o : (length t ≤ 4096) × Stopped t 0 8 0). absurd (not_8 o.1.kind o.1.rest o.1.why))
         (what (refused 8 0) e),
-    too-long-8 t,
+    too_long_8 t,
   )
     where
-      not-8 : (kind : ℕ) (rest : List ℕ) → Why 8 kind rest → ⊥
-      not-8 kind rest w = ⊎_elim (λ p. omega (arith, p.0)) (λ p. omega (arith, p.0)) w
+      not_8 : (kind : ℕ) (rest : List ℕ) → Why 8 kind rest → ⊥
+      not_8 kind rest w = ⊎_elim (λ p. omega (arith, p.0)) (λ p. omega (arith, p.0)) w
 
   -- the byte behind some records that stops the parse
   stops_at : (number place : ℕ) → (number ≡ 8 → ⊥) → parse t ≡ refused number place → (length t ≤ 4096) × Stopped t 0 number place
@@ -224,39 +224,39 @@ module _ (t : List ℕ) (b : AreBytes t) where
       (λ (o : (length t ≤ 4096) × Stopped t 0 number place). o)
       (what (refused number place) e)
 
-  pub refused-9-exactly : (place : ℕ) → (parse t ≡ refused 9 place) ↔ StopsAt t place (λ kind rest. bodyLength kind ≡ 0)
-  refused-9-exactly place = (there, back)
+  pub refused_9_exactly : (place : ℕ) → (parse t ≡ refused 9 place) ↔ StopsAt t place (λ kind rest. body_length kind ≡ 0)
+  refused_9_exactly place = (there, back)
     where
-      there : parse t ≡ refused 9 place → StopsAt t place (λ kind rest. bodyLength kind ≡ 0)
+      there : parse t ≡ refused 9 place → StopsAt t place (λ kind rest. body_length kind ≡ 0)
       there e =
           let S = stops_at 9 place (λ z. omega arith) e in
-          let unknown : bodyLength S.1.kind ≡ 0 = ⊎_elim (λ p. p.1) (λ p. absurd (omega (arith, p.0))) S.1.why in
+          let unknown : body_length S.1.kind ≡ 0 = ⊎_elim (λ p. p.1) (λ p. absurd (omega (arith, p.0))) S.1.why in
           (S.1.records, S.1.kind, S.1.rest, S.1.fit, S.1.splits, omega (arith, S.1.there), unknown, S.0)
 
-      back : StopsAt t place (λ kind rest. bodyLength kind ≡ 0) → parse t ≡ refused 9 place
+      back : StopsAt t place (λ kind rest. body_length kind ≡ 0) → parse t ≡ refused 9 place
       back x =
-          ap parse x.4 ∙ stops-9 x.0 x.1 x.2 x.3 x.6 (subst (λ (u : List ℕ). length u ≤ 4096) x.4 x.7) ∙ ap (refused 9) (sym x.5)
+          ap parse x.4 ∙ stops_9 x.0 x.1 x.2 x.3 x.6 (subst (λ (u : List ℕ). length u ≤ 4096) x.4 x.7) ∙ ap (refused 9) (sym x.5)
 
-  pub refused-10-exactly : (place : ℕ)
-      → (parse t ≡ refused 10 place) ↔ StopsAt t place (λ kind rest. (0 < bodyLength kind) × (length rest < bodyLength kind))
-  refused-10-exactly place = (there, back)
+  pub refused_10_exactly : (place : ℕ)
+      → (parse t ≡ refused 10 place) ↔ StopsAt t place (λ kind rest. (0 < body_length kind) × (length rest < body_length kind))
+  refused_10_exactly place = (there, back)
     where
-      there : parse t ≡ refused 10 place → StopsAt t place (λ kind rest. (0 < bodyLength kind) × (length rest < bodyLength kind))
+      there : parse t ≡ refused 10 place → StopsAt t place (λ kind rest. (0 < body_length kind) × (length rest < body_length kind))
       there e =
           let S = stops_at 10 place (λ z. omega arith) e in
-          let cut : (0 < bodyLength S.1.kind) × (length S.1.rest < bodyLength S.1.kind) =
+          let cut : (0 < body_length S.1.kind) × (length S.1.rest < body_length S.1.kind) =
           ⊎_elim (λ p. absurd (omega (arith, p.0))) (λ p. (p.1, p.2)) S.1.why in
           (S.1.records, S.1.kind, S.1.rest, S.1.fit, S.1.splits, omega (arith, S.1.there), cut, S.0)
 
-      back : StopsAt t place (λ kind rest. (0 < bodyLength kind) × (length rest < bodyLength kind)) → parse t ≡ refused 10 place
+      back : StopsAt t place (λ kind rest. (0 < body_length kind) × (length rest < body_length kind)) → parse t ≡ refused 10 place
       back x =
           ap parse x.4
-          ∙ stops-10 x.0 x.1 x.2 x.3 x.6.0 x.6.1 (subst (λ (u : List ℕ). length u ≤ 4096) x.4 x.7)
+          ∙ stops_10 x.0 x.1 x.2 x.3 x.6.0 x.6.1 (subst (λ (u : List ℕ). length u ≤ 4096) x.4 x.7)
           ∙ ap (refused 10) (sym x.5)
 
   -- there is no other refusal
-  pub refused-by : (number place : ℕ) → parse t ≡ refused number place → ((number ≡ 8) × (place ≡ 0)) ⊎ ((number ≡ 9) ⊎ (number ≡ 10))
-  refused-by number place e =
+  pub refused_by : (number place : ℕ) → parse t ≡ refused number place → ((number ≡ 8) × (place ≡ 0)) ⊎ ((number ≡ 9) ⊎ (number ≡ 10))
+  refused_by number place e =
       ⊎_elim (λ (o : (4096 < length t) × (refused 8 0 ≡ refused number place)). let p = o.1 in inl ((cc), (cc)))
       (λ (o : (length t ≤ 4096) × Stopped t 0 number place). inr (⊎_elim (λ p. inl p.0) (λ p. inr p.0) o.1.why))
       (what (refused number place) e)

@@ -8,64 +8,64 @@ use native.Mathlib.Omega.{arith}
 use borrow.Author.Tests.{eq-eqb, eqb-false, eqb-true, le-ltb, lt-ltb, ltb-false, ltb-true, ne_eqb}
 use lib.Dec.{eqb, ltb}
 use lib.ListN.{drop, get_or, length, length-drop, take}
-use Rattle.steering.specs.Reading.{readAt, recordAt}
-use Rattle.steering.specs.Records.{bodyLength, recordOf}
+use Rattle.steering.specs.Reading.{read_at, record_at}
+use Rattle.steering.specs.Records.{body_length, record_of}
 use Rattle.steering.specs.declared.reading.Reading.{Reading}
 use Rattle.steering.specs.declared.reading.Reading.TheVariants.{End, Found, Refused}
 use Rattle.steering.specs.declared.records.Record.{Record}
-use Rattle.steering.proofs.Laws.Records.{most-body}
+use Rattle.steering.proofs.Laws.Records.{most_body}
 
 module _ (t : List ℕ) (place : ℕ) where
-  pub past_end : length t < place → Refused 6 0 ≡ readAt t place
-  unfolding readAt
+  pub past_end : length t < place → Refused 6 0 ≡ read_at t place
+  unfolding read_at
   past_end a = simp (lt-ltb (length t) place a)
 
   module _ (a : place ≤ length t) where
-    pub too_long : 4096 < length t → Refused 8 0 ≡ readAt t place
-    unfolding readAt
+    pub too_long : 4096 < length t → Refused 8 0 ≡ read_at t place
+    unfolding read_at
     too_long b = simp (le-ltb (length t) place a, lt-ltb 4096 (length t) b)
 
     module _ (b : length t ≤ 4096) where
-      pub at-end : place ≡ length t → End ≡ readAt t place
-      unfolding readAt
-      at-end e = simp (le-ltb (length t) place a, le-ltb 4096 (length t) b, eq-eqb place (length t) e)
+      pub at_end : place ≡ length t → End ≡ read_at t place
+      unfolding read_at
+      at_end e = simp (le-ltb (length t) place a, le-ltb 4096 (length t) b, eq-eqb place (length t) e)
 
       module _ (c : place ≡ length t → ⊥) where
-        at-record : recordAt t place (get_or t place 0) ≡ readAt t place
-        unfolding readAt
-        at-record = simp (le-ltb (length t) place a, le-ltb 4096 (length t) b, ne_eqb place (length t) c)
+        at_record : record_at t place (get_or t place 0) ≡ read_at t place
+        unfolding read_at
+        at_record = simp (le-ltb (length t) place a, le-ltb 4096 (length t) b, ne_eqb place (length t) c)
 
-        module _ (n : ℕ) (e : n ≡ bodyLength (get_or t place 0)) where
-          pub unknown-kind : n ≡ 0 → Refused 9 place ≡ readAt t place
-          unfolding recordAt
-          unknown-kind z = rw (← at-record, ← e, z)
+        module _ (n : ℕ) (e : n ≡ body_length (get_or t place 0)) where
+          pub unknown_kind : n ≡ 0 → Refused 9 place ≡ read_at t place
+          unfolding record_at
+          unknown_kind z = rw (← at_record, ← e, z)
 
           module _ (z : n ≡ 0 → ⊥) where
-            pub cut_short : length t - (place + 1) < n → Refused 10 place ≡ readAt t place
-            unfolding recordAt
-            cut_short s = rw (← at-record, ← e, ne_eqb n 0 z, lt-ltb (length t - (place + 1)) n s)
+            pub cut_short : length t - (place + 1) < n → Refused 10 place ≡ read_at t place
+            unfolding record_at
+            cut_short s = rw (← at_record, ← e, ne_eqb n 0 z, lt-ltb (length t - (place + 1)) n s)
 
-            pub whole : (m : ℕ) (r : Record) → r ≡ recordOf (get_or t place 0) (take m (drop (place + 1) t)) → m ≡ n → n ≤ length t - (place + 1)
-                → Found r (place + 1 + n) ≡ readAt t place
-            unfolding recordAt
-            whole m r f g s = rw (← at-record, ← e, ne_eqb n 0 z, le-ltb (length t - (place + 1)) n s, f, g)
+            pub whole : (m : ℕ) (r : Record) → r ≡ record_of (get_or t place 0) (take m (drop (place + 1) t)) → m ≡ n → n ≤ length t - (place + 1)
+                → Found r (place + 1 + n) ≡ read_at t place
+            unfolding record_at
+            whole m r f g s = rw (← at_record, ← e, ne_eqb n 0 z, le-ltb (length t - (place + 1)) n s, f, g)
 
 -- what stands where a record was found
 pub record Here (t : List ℕ) (place : ℕ) (r : Record) (next : ℕ) : Type 0 where
-  pub not-long : length t ≤ 4096
-  pub known : 0 < bodyLength (get_or t place 0)
-  pub next-is : next ≡ place + 1 + bodyLength (get_or t place 0)
-  pub in_table : place + 1 + bodyLength (get_or t place 0) ≤ length t
-  pub record_is : r ≡ recordOf (get_or t place 0) (take (bodyLength (get_or t place 0)) (drop (place + 1) t))
+  pub not_long : length t ≤ 4096
+  pub known : 0 < body_length (get_or t place 0)
+  pub next_is : next ≡ place + 1 + body_length (get_or t place 0)
+  pub in_table : place + 1 + body_length (get_or t place 0) ≤ length t
+  pub record_is : r ≡ record_of (get_or t place 0) (take (body_length (get_or t place 0)) (drop (place + 1) t))
 
 -- why a record is refused, by the kind byte and the bytes that follow it
 abbrev pub Why : ℕ → ℕ → List ℕ → Type 0
-Why number kind rest = ((number ≡ 9) × (bodyLength kind ≡ 0)) ⊎ ((number ≡ 10) × (0 < bodyLength kind) × (length rest < bodyLength kind))
+Why number kind rest = ((number ≡ 9) × (body_length kind ≡ 0)) ⊎ ((number ≡ 10) × (0 < body_length kind) × (length rest < body_length kind))
 
 -- what stands where a record is refused
 pub record Stop (t : List ℕ) (place number at : ℕ) : Type 0 where
   pub inside : place < length t
-  pub at-kind : at ≡ place
+  pub at_kind : at ≡ place
   pub why : Why number (get_or t place 0) (drop (place + 1) t)
 
 -- what a reading says of the table; a refusal may also be that of the place or of the whole table
@@ -75,57 +75,57 @@ Says t place End = place ≡ length t
 Says t place (Refused number at) = (length t < place) ⊎ ((4096 < length t) ⊎ Stop t place number at)
 
 module _ (t : List ℕ) (place : ℕ) where
-  says : (x : Reading) → x ≡ readAt t place → Says t place x
+  says : (x : Reading) → x ≡ read_at t place → Says t place x
   says x e = by (ltb (length t) place) (ltb 4096 (length t)) (eqb place (length t)) refl refl refl
     where
       kind : ℕ
       kind = get_or t place 0
 
-      this : (y : Reading) → y ≡ readAt t place → Says t place y → Says t place x
+      this : (y : Reading) → y ≡ read_at t place → Says t place y → Says t place x
       this y f S = subst (Says t place) (f ∙ sym e) S
 
-      record-says : (place ≡ length t → ⊥) → length t ≤ 4096 → place ≤ length t → (x₁ x₂ : Bool) → eqb (bodyLength kind) 0 ≡ x₁
-          → ltb (length t - (place + 1)) (bodyLength kind) ≡ x₂ → Says t place x
-      record-says c b a true x₂ p q =
-          let none = eqb-true (bodyLength kind) 0 p in
-          this _ (unknown-kind t place a b c _ refl none) (inr (inr (record { inside = omega arith; at-kind = refl; why = inl (refl, none) })))
-      record-says c b a false true p q =
-          let some = eqb-false (bodyLength kind) 0 p in
-          let few = ltb-true (length t - (place + 1)) (bodyLength kind) q in
+      record_says : (place ≡ length t → ⊥) → length t ≤ 4096 → place ≤ length t → (x₁ x₂ : Bool) → eqb (body_length kind) 0 ≡ x₁
+          → ltb (length t - (place + 1)) (body_length kind) ≡ x₂ → Says t place x
+      record_says c b a true x₂ p q =
+          let none = eqb-true (body_length kind) 0 p in
+          this _ (unknown_kind t place a b c _ refl none) (inr (inr (record { inside = omega arith; at_kind = refl; why = inl (refl, none) })))
+      record_says c b a false true p q =
+          let some = eqb-false (body_length kind) 0 p in
+          let few = ltb-true (length t - (place + 1)) (body_length kind) q in
           let cut : Why 10 kind (drop (place + 1) t) = inr (refl, omega arith, omega (arith, length-drop (place + 1) t)) in
-          this _ (cut_short t place a b c _ refl some few) (inr (inr (record { inside = omega arith; at-kind = refl; why = cut })))
-      record-says c b a false false p q =
+          this _ (cut_short t place a b c _ refl some few) (inr (inr (record { inside = omega arith; at_kind = refl; why = cut })))
+      record_says c b a false false p q =
           let some = eqb-false _ _ p in
           let fits = ltb-false _ _ q in
           this _ (whole t place a b c _ refl some _ _ refl refl fits)
-          (record { not-long = b; known = omega arith; next-is = refl; in_table = omega arith; record_is = refl })
+          (record { not_long = b; known = omega arith; next_is = refl; in_table = omega arith; record_is = refl })
 
       by : (x₁ x₂ x₃ : Bool) → ltb (length t) place ≡ x₁ → ltb 4096 (length t) ≡ x₂ → eqb place (length t) ≡ x₃ → Says t place x
       by true x₂ x₃ p q r = this _ (past_end t place (ltb-true _ _ p)) (inl (ltb-true _ _ p))
       by false true x₃ p q r = this _ (too_long t place (ltb-false _ _ p) (ltb-true _ _ q)) (inr (inl (ltb-true _ _ q)))
-      by false false true p q r = this _ (at-end t place (ltb-false _ _ p) (ltb-false _ _ q) (eqb-true _ _ r)) (eqb-true _ _ r)
-      by false false false p q r = record-says (eqb-false _ _ r) (ltb-false _ _ q) (ltb-false _ _ p) _ _ refl refl
+      by false false true p q r = this _ (at_end t place (ltb-false _ _ p) (ltb-false _ _ q) (eqb-true _ _ r)) (eqb-true _ _ r)
+      by false false false p q r = record_says (eqb-false _ _ r) (ltb-false _ _ q) (ltb-false _ _ p) _ _ refl refl
 
-  pub ended : End ≡ readAt t place → place ≡ length t
+  pub ended : End ≡ read_at t place → place ≡ length t
   ended = says End
 
-  pub stopped : place ≤ length t → length t ≤ 4096 → (number at : ℕ) → Refused number at ≡ readAt t place → Stop t place number at
+  pub stopped : place ≤ length t → length t ≤ 4096 → (number at : ℕ) → Refused number at ≡ read_at t place → Stop t place number at
   stopped within short number at e =
       ⊎_elim (λ (p : length t < place). absurd (omega arith))
       (λ (o : (4096 < length t) ⊎ Stop t place number at). ⊎_elim (λ (p : 4096 < length t). absurd (omega arith)) (λ (S : Stop t place number at). S) o)
       (says (Refused number at) e)
 
-  pub found : (r : Record) (next : ℕ) → Found r next ≡ readAt t place → Here t place r next
+  pub found : (r : Record) (next : ℕ) → Found r next ≡ read_at t place → Here t place r next
   found r next = says (Found r next)
 
 -- a record that was found lies in the table, and the next place behind it
-pub found_within : (t : List ℕ) (place : ℕ) (r : Record) (next : ℕ) → Found r next ≡ readAt t place → (place < next) × (next ≤ length t)
+pub found_within : (t : List ℕ) (place : ℕ) (r : Record) (next : ℕ) → Found r next ≡ read_at t place → (place < next) × (next ≤ length t)
 found_within t place r next e = let H = found t place r next e in (omega arith, omega arith)
 
 -- no body has more than 32 bytes
-pub found-short : (t : List ℕ) (place : ℕ) (r : Record) (next : ℕ) → Found r next ≡ readAt t place → next ≤ place + 33
-found-short t place r next e = let H = found t place r next e in omega (arith, H.next-is, most-body (get_or t place 0))
+pub found_short : (t : List ℕ) (place : ℕ) (r : Record) (next : ℕ) → Found r next ≡ read_at t place → next ≤ place + 33
+found_short t place r next e = let H = found t place r next e in omega (arith, H.next_is, most_body (get_or t place 0))
 
 -- behind a record that the code read, less of the table is left
-pub less-left : (t : List ℕ) (at : ℕ) (x : Reading) (r : Record) (next : ℕ) → x ≡ Found r next → x ≡ readAt t at → length t - next < length t - at
-less-left t at x r next f e = let H = found t at r next (sym f ∙ e) in omega arith
+pub less_left : (t : List ℕ) (at : ℕ) (x : Reading) (r : Record) (next : ℕ) → x ≡ Found r next → x ≡ read_at t at → length t - next < length t - at
+less_left t at x r next f e = let H = found t at r next (sym f ∙ e) in omega arith

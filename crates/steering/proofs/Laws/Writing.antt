@@ -13,48 +13,48 @@ use mir.Syntax.{w8}
 use mir.Val.{Fits as Fits8}
 use lib.Seq.{length-sets, sets, sets-eq}
 use Rattle.steering.specs.Numbers.{AreBytes, bytes_of}
-use Rattle.steering.specs.Records.{Fits, bodyLength, body_of, kind_of, recordOf}
-use Rattle.steering.specs.Writing.{addressTooHigh, writeAnswer, writeBodyAnswer, writeBodyLeaves, writeBodyRefusal, writeLeaves, writeRefusal}
+use Rattle.steering.specs.Records.{Fits, body_length, body_of, kind_of, record_of}
+use Rattle.steering.specs.Writing.{address_too_high, write_answer, write_body_answer, write_body_leaves, write_body_refusal, write_leaves, write_refusal}
 use Rattle.steering.specs.declared.records.NodeAddress.{NodeAddress}
 use Rattle.steering.specs.declared.records.Note.{Note as NoteFields}
 use Rattle.steering.specs.declared.records.Record.{Record}
 use Rattle.steering.specs.declared.records.Record.TheVariants.{Floor, Hold, Node, Note}
 use Rattle.steering.specs.declared.writing.Written.{Written}
-use Rattle.steering.proofs.Laws.Complete.{body-length}
-use Rattle.steering.proofs.Laws.Numbers.{bytes-parts, bytes_rest, length-bytes}
-use Rattle.steering.proofs.Laws.Outcomes.{record-fits}
+use Rattle.steering.proofs.Laws.Complete.{body_length_lem}
+use Rattle.steering.proofs.Laws.Numbers.{bytes_parts, bytes_rest, length_bytes}
+use Rattle.steering.proofs.Laws.Outcomes.{record_fits}
 use Rattle.steering.proofs.Laws.Records.{Has, read_back}
 
 -- ---- numbers
 
 -- a run of bytes behind another
-sets-join : (room : List ℕ) (at : ℕ) (xs ys : List ℕ) → sets (sets room at xs) (at + length xs) ys ≡ sets room at (xs ++ ys)
-sets-join room at [] ys = ap (λ (k : ℕ). sets room k ys) (omega arith)
-sets-join room at (x ∷ xs) ys =
-    ap (λ (k : ℕ). sets (sets (set room at x) (suc at) xs) k ys) (omega arith) ∙ sets-join (set room at x) (suc at) xs ys
+sets_join : (room : List ℕ) (at : ℕ) (xs ys : List ℕ) → sets (sets room at xs) (at + length xs) ys ≡ sets room at (xs ++ ys)
+sets_join room at [] ys = ap (λ (k : ℕ). sets room k ys) (omega arith)
+sets_join room at (x ∷ xs) ys =
+    ap (λ (k : ℕ). sets (sets (set room at x) (suc at) xs) k ys) (omega arith) ∙ sets_join (set room at x) (suc at) xs ys
 
 -- the two bytes of a number below 2^16
-pub two-put : (room : List ℕ) (at x : ℕ) → x < 2 ^ 16 → set (set room at (x / 256)) (at + 1) (x % 256) ≡ sets room at (bytes_of 2 x)
+pub two_put : (room : List ℕ) (at x : ℕ) → x < 2 ^ 16 → set (set room at (x / 256)) (at + 1) (x % 256) ≡ sets room at (bytes_of 2 x)
 unfolding bytes_of
-two-put room at x h =
+two_put room at x h =
     let high : x / 256 < 256 = omega arith in
     rw (add-one at, mod-eq_of_lt high, div-one x)
 
 -- a number is put in two parts, of m bytes and of n
-pub parts-put : (m n : ℕ) (room mid after : List ℕ) (at x : ℕ) → mid ≡ sets room at (bytes_of m (x / 256 ^ n))
+pub parts_put : (m n : ℕ) (room mid after : List ℕ) (at x : ℕ) → mid ≡ sets room at (bytes_of m (x / 256 ^ n))
     → after ≡ sets mid (at + m) (bytes_of n (x % 256 ^ n)) → after ≡ sets room at (bytes_of (m + n) x)
-parts-put m n room mid after at x p q =
+parts_put m n room mid after at x p q =
     let first = bytes_of m (x / 256 ^ n) in
     let last = bytes_of n (x % 256 ^ n) in
     q
-    ∙ ap₂ (λ (l : List ℕ) (k : ℕ). sets l (at + k) last) p (sym (length-bytes m (x / 256 ^ n)))
-    ∙ sets-join room at first last
-    ∙ ap (sets room at) (sym (bytes-parts m n x))
+    ∙ ap₂ (λ (l : List ℕ) (k : ℕ). sets l (at + k) last) p (sym (length_bytes m (x / 256 ^ n)))
+    ∙ sets_join room at first last
+    ∙ ap (sets room at) (sym (bytes_parts m n x))
 
 -- the same of the first part's remainder
 pub rest_put : (m n : ℕ) (room mid after : List ℕ) (at x : ℕ) → mid ≡ sets room at (bytes_of m (x / 256 ^ n % 256 ^ m))
     → after ≡ sets mid (at + m) (bytes_of n (x % 256 ^ n)) → after ≡ sets room at (bytes_of (m + n) x)
-rest_put m n room mid after at x p q = parts-put m n room mid after at x (p ∙ ap (sets room at) (bytes_rest m (x / 256 ^ n))) q
+rest_put m n room mid after at x p q = parts_put m n room mid after at x (p ∙ ap (sets room at) (bytes_rest m (x / 256 ^ n))) q
 
 -- a byte and a run of bytes leave as many
 pub as_long : (room after : List ℕ) (place at x : ℕ) (xs : List ℕ) → after ≡ sets (set room place x) at xs → length after ≡ length room
@@ -66,30 +66,30 @@ module _ (room place more : ℕ) where
   pub past_room : room ≤ place → true ≡ ltb room (place + 1 + more)
   past_room h = sym (lt-ltb room (place + 1 + more) (omega arith))
 
-  pub left-of-room : place < room → ltb (room - place - 1) more ≡ ltb room (place + 1 + more)
-  left-of-room h = by (ltb (room - place - 1) more) refl
+  pub left_of_room : place < room → ltb (room - place - 1) more ≡ ltb room (place + 1 + more)
+  left_of_room h = by (ltb (room - place - 1) more) refl
     where
       by : (t : Bool) → ltb (room - place - 1) more ≡ t → ltb (room - place - 1) more ≡ ltb room (place + 1 + more)
       by true p = p ∙ sym (lt-ltb room (place + 1 + more) (omega (arith, ltb-true (room - place - 1) more p)))
       by false p = p ∙ sym (le-ltb room (place + 1 + more) (omega (arith, ltb-false (room - place - 1) more p)))
 
-pub node-too-high : (r : Record) (n : NodeAddress) → r ≡ Node n → leb (2 ^ 48) n.address ≡ addressTooHigh r
-node-too-high r n e = sym (ap addressTooHigh e)
+pub node_too_high : (r : Record) (n : NodeAddress) → r ≡ Node n → leb (2 ^ 48) n.address ≡ address_too_high r
+node_too_high r n e = sym (ap address_too_high e)
 
-pub never-too-high : (r : Record) → Fits r → addressTooHigh r ≡ false
-never-too-high (Node a) f = lt-leb (2 ^ 48) a.address f
-never-too-high (Floor g) f = refl
-never-too-high (Hold t) f = refl
-never-too-high (Note n) f = refl
+pub never_too_high : (r : Record) → Fits r → address_too_high r ≡ false
+never_too_high (Node a) f = lt-leb (2 ^ 48) a.address f
+never_too_high (Floor g) f = refl
+never_too_high (Hold t) f = refl
+never_too_high (Note n) f = refl
 
 -- ---- bodies
 
 -- four numbers of eight bytes, one behind the other
-pub note-put : (room one two three after : List ℕ) (at : ℕ) (n : NoteFields) → one ≡ sets room at (bytes_of 8 n.first)
+pub note_put : (room one two three after : List ℕ) (at : ℕ) (n : NoteFields) → one ≡ sets room at (bytes_of 8 n.first)
     → two ≡ sets one (at + 8) (bytes_of 8 n.second) → three ≡ sets two (at + 16) (bytes_of 8 n.third)
     → after ≡ sets three (at + 24) (bytes_of 8 n.fourth) → after ≡ sets room at (body_of (Note n))
-note-put room one two three after at n p q r s =
-    behind 24 (a ++ b ++ c) d three after (behind 16 (a ++ b) c two three (behind 8 a b one two p q (length-bytes 8 n.first)) r twice) s thrice
+note_put room one two three after at n p q r s =
+    behind 24 (a ++ b ++ c) d three after (behind 16 (a ++ b) c two three (behind 8 a b one two p q (length_bytes 8 n.first)) r twice) s thrice
   where
     a : List ℕ
     a = bytes_of 8 n.first
@@ -104,144 +104,144 @@ note-put room one two three after at n p q r s =
     d = bytes_of 8 n.fourth
 
     behind : (k : ℕ) (xs ys mid end : List ℕ) → mid ≡ sets room at xs → end ≡ sets mid (at + k) ys → length xs ≡ k → end ≡ sets room at (xs ++ ys)
-    behind k xs ys mid end e f l = f ∙ ap₂ (λ (u : List ℕ) (j : ℕ). sets u (at + j) ys) e (sym l) ∙ sets-join room at xs ys
+    behind k xs ys mid end e f l = f ∙ ap₂ (λ (u : List ℕ) (j : ℕ). sets u (at + j) ys) e (sym l) ∙ sets_join room at xs ys
 
     twice : length (a ++ b) ≡ 16
-    twice = omega (arith, length-append a b, length-bytes 8 n.first, length-bytes 8 n.second)
+    twice = omega (arith, length-append a b, length_bytes 8 n.first, length_bytes 8 n.second)
 
     thrice : length (a ++ b ++ c) ≡ 24
-    thrice = omega (arith, twice, length-append (a ++ b) c, length-bytes 8 n.third)
+    thrice = omega (arith, twice, length-append (a ++ b) c, length_bytes 8 n.third)
 
 -- the body of a record that is known
 module _ (r q : Record) (is : r ≡ q) where
-  pub body-put : (room after : List ℕ) (at : ℕ) → after ≡ sets room at (body_of q) → after ≡ sets room at (body_of r)
-  body-put room after at e = e ∙ ap (λ (s : Record). sets room at (body_of s)) (sym is)
+  pub body_put : (room after : List ℕ) (at : ℕ) → after ≡ sets room at (body_of q) → after ≡ sets room at (body_of r)
+  body_put room after at e = e ∙ ap (λ (s : Record). sets room at (body_of s)) (sym is)
 
-  pub body-fits : (k at room : ℕ) → at + length (body_of r) ≤ room → length (body_of q) ≡ k → at + k ≤ room
-  body-fits k at room h l = omega (arith, h, l, ap (λ (s : Record). length (body_of s)) is)
+  pub body_fits : (k at room : ℕ) → at + length (body_of r) ≤ room → length (body_of q) ≡ k → at + k ≤ room
+  body_fits k at room h l = omega (arith, h, l, ap (λ (s : Record). length (body_of s)) is)
 
-pub note-long : (n : NoteFields) → length (body_of (Note n)) ≡ 32
-unfolding bodyLength
-note-long n = body-length (Note n)
+pub note_long : (n : NoteFields) → length (body_of (Note n)) ≡ 32
+unfolding body_length
+note_long n = body_length_lem (Note n)
 
 -- ---- what a write answers and leaves, by the tests that led there
 
 -- a record by its values; n bytes follow the kind byte
-module _ (room : List ℕ) (place : ℕ) (r : Record) (kind n : ℕ) (k : kind ≡ kind_of r) (e : n ≡ bodyLength kind) where
-  n-bytes : n ≡ length (body_of r)
-  n-bytes = e ∙ ap bodyLength k ∙ sym (body-length r)
+module _ (room : List ℕ) (place : ℕ) (r : Record) (kind n : ℕ) (k : kind ≡ kind_of r) (e : n ≡ body_length kind) where
+  n_bytes : n ≡ length (body_of r)
+  n_bytes = e ∙ ap body_length k ∙ sym (body_length_lem r)
 
   module _ (short : Bool) (s : short ≡ ltb (length room) (place + 1 + n)) where
-    short-is : ltb (length room) (place + 1 + length (body_of r)) ≡ short
-    short-is = rw (← n-bytes) (sym s)
+    short_is : ltb (length room) (place + 1 + length (body_of r)) ≡ short
+    short_is = rw (← n_bytes) (sym s)
 
     module _ (yes : short ≡ true) where
-      pub answer-5 : (a : Written) → a ≡ record { refusal = 5; next = 0 } → a ≡ writeAnswer (length room) place r
-      unfolding writeAnswer writeRefusal
-      answer-5 a f = f ∙ rw (short-is, yes)
+      pub answer_5 : (a : Written) → a ≡ record { refusal = 5; next = 0 } → a ≡ write_answer (length room) place r
+      unfolding write_answer write_refusal
+      answer_5 a f = f ∙ rw (short_is, yes)
 
-      pub left-5 : room ≡ writeLeaves room place r
-      unfolding writeLeaves writeRefusal
-      left-5 = rw (short-is, yes)
+      pub left_5 : room ≡ write_leaves room place r
+      unfolding write_leaves write_refusal
+      left_5 = rw (short_is, yes)
 
     module _ (no : short ≡ false) where
-      pub record-fits-room : place + 1 + n ≤ length room
-      record-fits-room = ltb-false (length room) (place + 1 + n) (sym s ∙ no)
+      pub record_fits_room : place + 1 + n ≤ length room
+      record_fits_room = ltb-false (length room) (place + 1 + n) (sym s ∙ no)
 
-      pub place-in-room : place < length room
-      place-in-room = omega (arith, record-fits-room)
+      pub place_in_room : place < length room
+      place_in_room = omega (arith, record_fits_room)
 
-      pub body-in-room : place + 1 + length (body_of r) ≤ length (set room place kind)
-      body-in-room = omega (arith, record-fits-room, n-bytes, length-set room place kind)
+      pub body_in_room : place + 1 + length (body_of r) ≤ length (set room place kind)
+      body_in_room = omega (arith, record_fits_room, n_bytes, length-set room place kind)
 
       module _ (slice : length room < 2 ^ 64) where
-        pub body-place-fits : place + 1 < 2 ^ 64
-        body-place-fits = omega (arith, record-fits-room)
+        pub body_place_fits : place + 1 < 2 ^ 64
+        body_place_fits = omega (arith, record_fits_room)
 
         pub length-fits : place + n < 2 ^ 64
-        length-fits = omega (arith, record-fits-room)
+        length-fits = omega (arith, record_fits_room)
 
         pub next_fits : place + n + 1 < 2 ^ 64
-        next_fits = omega (arith, record-fits-room)
+        next_fits = omega (arith, record_fits_room)
 
-      module _ (high : Bool) (h : high ≡ addressTooHigh r) where
-        pub answer-12 : high ≡ true → (a : Written) → a ≡ record { refusal = 12; next = 0 } → a ≡ writeAnswer (length room) place r
-        unfolding writeAnswer writeRefusal
-        answer-12 y a f = f ∙ rw (short-is, no, ← h, y)
+      module _ (high : Bool) (h : high ≡ address_too_high r) where
+        pub answer_12 : high ≡ true → (a : Written) → a ≡ record { refusal = 12; next = 0 } → a ≡ write_answer (length room) place r
+        unfolding write_answer write_refusal
+        answer_12 y a f = f ∙ rw (short_is, no, ← h, y)
 
-        pub left-12 : high ≡ true → room ≡ writeLeaves room place r
-        unfolding writeLeaves writeRefusal
-        left-12 y = rw (short-is, no, ← h, y)
+        pub left_12 : high ≡ true → room ≡ write_leaves room place r
+        unfolding write_leaves write_refusal
+        left_12 y = rw (short_is, no, ← h, y)
 
-        pub answer-done : high ≡ false → record { refusal = 0; next = place + n + 1 } ≡ writeAnswer (length room) place r
-        unfolding writeAnswer writeRefusal
-        answer-done y =
-            let to : place + n + 1 ≡ place + 1 + length (body_of r) = omega (arith, n-bytes) in
-            rw (short-is, no, ← h, y) (ap (λ (k : ℕ). record { refusal = 0; next = k }) to)
+        pub answer_done : high ≡ false → record { refusal = 0; next = place + n + 1 } ≡ write_answer (length room) place r
+        unfolding write_answer write_refusal
+        answer_done y =
+            let to : place + n + 1 ≡ place + 1 + length (body_of r) = omega (arith, n_bytes) in
+            rw (short_is, no, ← h, y) (ap (λ (k : ℕ). record { refusal = 0; next = k }) to)
 
-        pub left-done : high ≡ false → (after : List ℕ) → after ≡ sets (set room place kind) (place + 1) (body_of r) → after ≡ writeLeaves room place r
-        unfolding writeLeaves writeRefusal
-        left-done y after f =
+        pub left_done : high ≡ false → (after : List ℕ) → after ≡ sets (set room place kind) (place + 1) (body_of r) → after ≡ write_leaves room place r
+        unfolding write_leaves write_refusal
+        left_done y after f =
             f
             ∙ ap₂ (λ (x j : ℕ). sets (set room place x) j (body_of r)) k (add-one place)
-            ∙ sets-eq (kind_of r ∷ body_of r) room place (omega (arith, record-fits-room, n-bytes))
-            ∙ rw (short-is, no, ← h, y)
+            ∙ sets-eq (kind_of r ∷ body_of r) room place (omega (arith, record_fits_room, n_bytes))
+            ∙ rw (short_is, no, ← h, y)
 
 -- a record by its kind byte and its body; n is how long the kind's are
 module _ (room : List ℕ) (place kind : ℕ) (body : List ℕ) (short : Bool) (s : short ≡ ltb (length room) (place + 1 + length body)) where
   module _ (yes : short ≡ true) where
-    pub body-answer-5 : (a : Written) → a ≡ record { refusal = 5; next = 0 } → a ≡ writeBodyAnswer (length room) place kind (length body)
-    unfolding writeBodyAnswer writeBodyRefusal
-    body-answer-5 a f = f ∙ rw (← s, yes)
+    pub body_answer_5 : (a : Written) → a ≡ record { refusal = 5; next = 0 } → a ≡ write_body_answer (length room) place kind (length body)
+    unfolding write_body_answer write_body_refusal
+    body_answer_5 a f = f ∙ rw (← s, yes)
 
-    pub body-left-5 : room ≡ writeBodyLeaves room place kind body
-    unfolding writeBodyLeaves writeBodyRefusal
-    body-left-5 = rw (← s, yes)
+    pub body_left_5 : room ≡ write_body_leaves room place kind body
+    unfolding write_body_leaves write_body_refusal
+    body_left_5 = rw (← s, yes)
 
-  module _ (no : short ≡ false) (n : ℕ) (e : n ≡ bodyLength kind) where
+  module _ (no : short ≡ false) (n : ℕ) (e : n ≡ body_length kind) where
     module _ (z : n ≡ 0) where
-      pub body-answer-9 : (a : Written) → a ≡ record { refusal = 9; next = 0 } → a ≡ writeBodyAnswer (length room) place kind (length body)
-      unfolding writeBodyAnswer writeBodyRefusal
-      body-answer-9 a f = f ∙ rw (← s, no, ← e, z)
+      pub body_answer_9 : (a : Written) → a ≡ record { refusal = 9; next = 0 } → a ≡ write_body_answer (length room) place kind (length body)
+      unfolding write_body_answer write_body_refusal
+      body_answer_9 a f = f ∙ rw (← s, no, ← e, z)
 
-      pub body-left-9 : room ≡ writeBodyLeaves room place kind body
-      unfolding writeBodyLeaves writeBodyRefusal
-      body-left-9 = rw (← s, no, ← e, z)
+      pub body_left_9 : room ≡ write_body_leaves room place kind body
+      unfolding write_body_leaves write_body_refusal
+      body_left_9 = rw (← s, no, ← e, z)
 
     module _ (z : n ≡ 0 → ⊥) where
-      known-kind : eqb (bodyLength kind) 0 ≡ false
-      known-kind = ne_eqb (bodyLength kind) 0 (λ q. z (e ∙ q))
+      known_kind : eqb (body_length kind) 0 ≡ false
+      known_kind = ne_eqb (body_length kind) 0 (λ q. z (e ∙ q))
 
       module _ (other : n ≡ length body → ⊥) where
-        unlike : eqb (length body) (bodyLength kind) ≡ false
-        unlike = ne_eqb (length body) (bodyLength kind) (λ q. other (e ∙ sym q))
+        unlike : eqb (length body) (body_length kind) ≡ false
+        unlike = ne_eqb (length body) (body_length kind) (λ q. other (e ∙ sym q))
 
-        pub body-answer-10 : (a : Written) → a ≡ record { refusal = 10; next = 0 } → a ≡ writeBodyAnswer (length room) place kind (length body)
-        unfolding writeBodyAnswer writeBodyRefusal
-        body-answer-10 a f = f ∙ rw (← s, no, known-kind, unlike)
+        pub body_answer_10 : (a : Written) → a ≡ record { refusal = 10; next = 0 } → a ≡ write_body_answer (length room) place kind (length body)
+        unfolding write_body_answer write_body_refusal
+        body_answer_10 a f = f ∙ rw (← s, no, known_kind, unlike)
 
-        pub body-left-10 : room ≡ writeBodyLeaves room place kind body
-        unfolding writeBodyLeaves writeBodyRefusal
-        body-left-10 = rw (← s, no, known-kind, unlike)
+        pub body_left_10 : room ≡ write_body_leaves room place kind body
+        unfolding write_body_leaves write_body_refusal
+        body_left_10 = rw (← s, no, known_kind, unlike)
 
       -- the record of that kind and body has these bytes, and its address is below 2^48
-      module _ (same : n ≡ length body) (fits : (k : ℕ) → Fits8 w8 (get_or body k 0)) (r : Record) (is : r ≡ recordOf kind body) where
+      module _ (same : n ≡ length body) (fits : (k : ℕ) → Fits8 w8 (get_or body k 0)) (r : Record) (is : r ≡ record_of kind body) where
         bytes : AreBytes body
         bytes k = (fits k).fits
 
         has : Has r kind body
         has = rw is (read_back kind body (sym same ∙ e) bytes (omega (arith, e)))
 
-        alike : eqb (length body) (bodyLength kind) ≡ true
-        alike = eq-eqb (length body) (bodyLength kind) (sym same ∙ e)
+        alike : eqb (length body) (body_length kind) ≡ true
+        alike = eq-eqb (length body) (body_length kind) (sym same ∙ e)
 
-        low : addressTooHigh r ≡ false
-        low = never-too-high r (rw is (record-fits kind body bytes))
+        low : address_too_high r ≡ false
+        low = never_too_high r (rw is (record_fits kind body bytes))
 
-        pub body-answer : (a : Written) → a ≡ writeAnswer (length room) place r → a ≡ writeBodyAnswer (length room) place kind (length body)
-        unfolding writeAnswer writeRefusal writeBodyAnswer writeBodyRefusal
-        body-answer a f = f ∙ rw (has.body_is, ← s, no, low, known-kind, alike)
+        pub body_answer : (a : Written) → a ≡ write_answer (length room) place r → a ≡ write_body_answer (length room) place kind (length body)
+        unfolding write_answer write_refusal write_body_answer write_body_refusal
+        body_answer a f = f ∙ rw (has.body_is, ← s, no, low, known_kind, alike)
 
-        pub body-left : (after : List ℕ) → after ≡ writeLeaves room place r → after ≡ writeBodyLeaves room place kind body
-        unfolding writeLeaves writeRefusal writeBodyLeaves writeBodyRefusal
-        body-left after f = f ∙ rw (has.body_is, has.kind-is, ← s, no, low, known-kind, alike)
+        pub body_left : (after : List ℕ) → after ≡ write_leaves room place r → after ≡ write_body_leaves room place kind body
+        unfolding write_leaves write_refusal write_body_leaves write_body_refusal
+        body_left after f = f ∙ rw (has.body_is, has.kind_is, ← s, no, low, known_kind, alike)

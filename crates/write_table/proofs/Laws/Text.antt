@@ -9,24 +9,24 @@ use borrow.Author.Tests.{eq-eqb, eqb-false, eqb-true, leb-false, leb-true, ne_eq
 use lib.Dec.{eqb, leb}
 use lib.ListN.{drop, get_or, length, length-append, length-drop, take}
 use lib.Seq.{drop-cons, drop-length, get_or-drop, length-take-le, take_at, take-suc}
-use Rattle.steering.specs.Reading.{readAt}
+use Rattle.steering.specs.Reading.{read_at}
 use Rattle.steering.specs.Records.{Fits, body_of, kind_of}
-use Rattle.steering.specs.Writing.{put_at, writeAnswer, writeLeaves}
+use Rattle.steering.specs.Writing.{put_at, write_answer, write_leaves}
 use Rattle.steering.specs.declared.reading.Reading.{Reading}
 use Rattle.steering.specs.declared.reading.Reading.TheVariants.{End, Found, Refused}
 use Rattle.steering.specs.declared.records.Record.{Record as TableRecord}
 use Rattle.steering.specs.declared.writing.Written.{Written}
 use Rattle.steering.proofs.Promises.{short_write}
-use Rattle.steering.proofs.Theorems.{a-record-is-what-stands-there, a-record-that-fits-is-written}
+use Rattle.steering.proofs.Theorems.{a_record_is_what_stands_there, a_record_that_fits_is_written}
 use Rattle.write_table.specs.declared.line.Line.{Line}
 use Rattle.write_table.specs.declared.line.Line.TheVariants.{Count, Record, Unreadable}
 use Rattle.write_table.specs.declared.text.Made.{Made}
 use Rattle.write_table.specs.declared.text.Step.{Step}
-use Rattle.write_table.specs.Hexadecimal.{isHex, pairsOf}
-use Rattle.write_table.specs.Line.{alone, countLine, digitsIn, hexBehind, isFramed, line_of, onlyRecord, recordBehind, recordIn, sameOf}
-use Rattle.write_table.specs.Step.{badAt, stepLeaves, step_of}
-use Rattle.write_table.specs.Text.{Text, badLine, bytesMade, goOn, isNil, made_of, table, textFrom, text_of}
-use Rattle.write_table.proofs.Laws.Hexadecimal.{pairs-bytes}
+use Rattle.write_table.specs.Hexadecimal.{is_hex, pairs_of}
+use Rattle.write_table.specs.Line.{alone, count_line, digits_in, hex_behind, is_framed, line_of, only_record, record_behind, record_in, same_of}
+use Rattle.write_table.specs.Step.{bad_at, step_leaves, step_of}
+use Rattle.write_table.specs.Text.{Text, bad_line, bytes_made, go_on, is_nil, made_of, table, text_from, text_of}
+use Rattle.write_table.proofs.Laws.Hexadecimal.{pairs_bytes}
 
 -- ---- the record of a line fits its fields
 
@@ -35,47 +35,47 @@ picked : (t : Bool) (a : Line) (r : TableRecord) → Record r ≡ cond t a Unrea
 picked true a r e = (refl, e)
 picked false a r e = let z : ◌≡◌ {A = ℕ} 0 1 = cc in absurd (omega arith)
 
-alone-fits : (bytes : List ℕ) (r : TableRecord) → ((k : ℕ) → get_or bytes k 0 < 256) → Record r ≡ alone bytes → Fits r
+alone_fits : (bytes : List ℕ) (r : TableRecord) → ((k : ℕ) → get_or bytes k 0 < 256) → Record r ≡ alone bytes → Fits r
 unfolding alone
-alone-fits bytes r b e = by (readAt bytes 0) refl e
+alone_fits bytes r b e = by (read_at bytes 0) refl e
   where
-    by : (x : Reading) → x ≡ readAt bytes 0 → Record r ≡ onlyRecord (length bytes) x → Fits r
+    by : (x : Reading) → x ≡ read_at bytes 0 → Record r ≡ only_record (length bytes) x → Fits r
     by (Found q next) f g =
         let p = (picked (eqb next (length bytes)) (Record q) r g).1 in
         let same : r ≡ q = cc in
-        rw same (a-record-is-what-stands-there bytes 0 next q b f).2
+        rw same (a_record_is_what_stands_there bytes 0 next q b f).2
     by End f g = let z : ◌≡◌ {A = ℕ} 0 1 = cc in absurd (omega arith)
     by (Refused number place) f g = let z : ◌≡◌ {A = ℕ} 0 1 = cc in absurd (omega arith)
 
-pub line-fits : (count : ℕ) (line : List ℕ) (x : Line) (r : TableRecord) → x ≡ line_of count line → x ≡ Record r → Fits r
-unfolding line_of recordIn recordBehind
-line-fits count line x r e f = by (sameOf line (countLine count)) (sym f ∙ e)
+pub line_fits : (count : ℕ) (line : List ℕ) (x : Line) (r : TableRecord) → x ≡ line_of count line → x ≡ Record r → Fits r
+unfolding line_of record_in record_behind
+line_fits count line x r e f = by (same_of line (count_line count)) (sym f ∙ e)
   where
-    by : (t : Bool) → Record r ≡ cond t Count (recordIn line) → Fits r
+    by : (t : Bool) → Record r ≡ cond t Count (record_in line) → Fits r
     by true g = let z : ◌≡◌ {A = ℕ} 0 1 = cc in absurd (omega arith)
     by false g =
-        let at = digitsIn line in
-        let behind = (picked (isFramed line at) (recordBehind line at) r g).1 in
-        let hex = picked (isHex (hexBehind line at)) (alone (pairsOf (hexBehind line at))) r behind in
-        alone-fits (pairsOf (hexBehind line at)) r (pairs-bytes (hexBehind line at) hex.0) hex.1
+        let at = digits_in line in
+        let behind = (picked (is_framed line at) (record_behind line at) r g).1 in
+        let hex = picked (is_hex (hex_behind line at)) (alone (pairs_of (hex_behind line at))) r behind in
+        alone_fits (pairs_of (hex_behind line at)) r (pairs_bytes (hex_behind line at) hex.0) hex.1
 
 -- ---- one record
 
 module _ (r : TableRecord) (f : Fits r) (room : List ℕ) (l : length room ≡ 4096) (size : ℕ) where
-  finds-room : leb (size + suc (length (body_of r))) 4096 ≡ true
-      → (writeAnswer (length room) size r ≡ record { refusal = 0; next = size + suc (length (body_of r)) })
-      × (writeLeaves room size r ≡ put_at room size (kind_of r ∷ body_of r))
-  finds-room t =
-      let W = a-record-that-fits-is-written room size r f (omega (arith, l, leb-true (size + suc (length (body_of r))) 4096 t)) in
+  finds_room : leb (size + suc (length (body_of r))) 4096 ≡ true
+      → (write_answer (length room) size r ≡ record { refusal = 0; next = size + suc (length (body_of r)) })
+      × (write_leaves room size r ≡ put_at room size (kind_of r ∷ body_of r))
+  finds_room t =
+      let W = a_record_that_fits_is_written room size r f (omega (arith, l, leb-true (size + suc (length (body_of r))) 4096 t)) in
       let n : size + 1 + length (body_of r) ≡ size + suc (length (body_of r)) = omega arith in
       (W.0 ∙ ap (λ (k : ℕ). record { refusal = 0; next = k }) n, W.1)
 
-  finds-none : leb (size + suc (length (body_of r))) 4096 ≡ false
-      → (writeAnswer (length room) size r ≡ record { refusal = 5; next = 0 }) × (writeLeaves room size r ≡ room)
-  finds-none t = short_write room size r (omega (arith, l, leb-false (size + suc (length (body_of r))) 4096 t))
+  finds_none : leb (size + suc (length (body_of r))) 4096 ≡ false
+      → (write_answer (length room) size r ≡ record { refusal = 5; next = 0 }) × (write_leaves room size r ≡ room)
+  finds_none t = short_write room size r (omega (arith, l, leb-false (size + suc (length (body_of r))) 4096 t))
 
-  module _ (w : Written) (e : w ≡ writeAnswer (length room) size r) (count : ℕ) where
-    refusal_is : (v : Written) → writeAnswer (length room) size r ≡ v → w.refusal ≡ v.refusal
+  module _ (w : Written) (e : w ≡ write_answer (length room) size r) (count : ℕ) where
+    refusal_is : (v : Written) → write_answer (length room) size r ≡ v → w.refusal ≡ v.refusal
     refusal_is v q = ap (λ (x : Written). x.refusal) (e ∙ q)
 
     module _ (some : w.refusal ≡ 0 → ⊥) where
@@ -83,41 +83,41 @@ module _ (r : TableRecord) (f : Fits r) (room : List ℕ) (l : length room ≡ 4
       no_room = by (leb (size + suc (length (body_of r))) 4096) refl
         where
           by : (t : Bool) → leb (size + suc (length (body_of r))) 4096 ≡ t → leb (size + suc (length (body_of r))) 4096 ≡ false
-          by true p = absurd (some (refusal_is _ (finds-room p).0))
+          by true p = absurd (some (refusal_is _ (finds_room p).0))
           by false p = p
 
-      pub record-refused : (s : Step) → s ≡ badAt (count + 1) → s ≡ step_of (Record r) count size false
-      record-refused s q = q ∙ rw no_room
+      pub record_refused : (s : Step) → s ≡ bad_at (count + 1) → s ≡ step_of (Record r) count size false
+      record_refused s q = q ∙ rw no_room
 
-      pub record-left : (after : List ℕ) → after ≡ writeLeaves room size r → after ≡ stepLeaves (Record r) size room
-      record-left after q = q ∙ (finds-none no_room).1 ∙ rw no_room
+      pub record_left : (after : List ℕ) → after ≡ write_leaves room size r → after ≡ step_leaves (Record r) size room
+      record_left after q = q ∙ (finds_none no_room).1 ∙ rw no_room
 
     module _ (none : w.refusal ≡ 0) where
-      some-room : leb (size + suc (length (body_of r))) 4096 ≡ true
-      some-room = by (leb (size + suc (length (body_of r))) 4096) refl
+      some_room : leb (size + suc (length (body_of r))) 4096 ≡ true
+      some_room = by (leb (size + suc (length (body_of r))) 4096) refl
         where
           by : (t : Bool) → leb (size + suc (length (body_of r))) 4096 ≡ t → leb (size + suc (length (body_of r))) 4096 ≡ true
           by true p = p
-          by false p = let z : ◌≡◌ {A = ℕ} 0 5 = sym none ∙ refusal_is _ (finds-none p).0 in absurd (omega arith)
+          by false p = let z : ◌≡◌ {A = ℕ} 0 5 = sym none ∙ refusal_is _ (finds_none p).0 in absurd (omega arith)
 
-      pub record-taken : record { is_over = false; bad_line = 0; size = w.next } ≡ step_of (Record r) count size false
-      record-taken =
-          ap (λ (k : ℕ). record { is_over = false; bad_line = 0; size = k }) (ap (λ (x : Written). x.next) (e ∙ (finds-room some-room).0)) ∙ rw some-room
+      pub record_taken : record { is_over = false; bad_line = 0; size = w.next } ≡ step_of (Record r) count size false
+      record_taken =
+          ap (λ (k : ℕ). record { is_over = false; bad_line = 0; size = k }) (ap (λ (x : Written). x.next) (e ∙ (finds_room some_room).0)) ∙ rw some_room
 
-      pub record-put : (after : List ℕ) → after ≡ writeLeaves room size r → after ≡ stepLeaves (Record r) size room
-      record-put after q = q ∙ (finds-room some-room).1 ∙ rw some-room
+      pub record_put : (after : List ℕ) → after ≡ write_leaves room size r → after ≡ step_leaves (Record r) size room
+      record_put after q = q ∙ (finds_room some_room).1 ∙ rw some_room
 
 -- ---- the count
 
 module _ (count size : ℕ) (last : Bool) where
-  pub not_last : last ≡ false → (s : Step) → s ≡ badAt (count + 2) → s ≡ step_of Count count size last
+  pub not_last : last ≡ false → (s : Step) → s ≡ bad_at (count + 2) → s ≡ step_of Count count size last
   not_last n s q = q ∙ rw n
 
   pub at_last : last ≡ true → record { is_over = true; bad_line = 0; size = size } ≡ step_of Count count size last
   at_last y = rw y
 
-pub not-going-on : (more : Bool) (place size : ℕ) → more ≡ false → eqb place size ≡ cond more false (eqb place size)
-not-going-on more place size n = rw n
+pub not_going_on : (more : Bool) (place size : ℕ) → more ≡ false → eqb place size ≡ cond more false (eqb place size)
+not_going_on more place size n = rw n
 
 -- ---- one line
 
@@ -125,35 +125,35 @@ module _ (x l q : Line) (is : x ≡ q) (e : x ≡ l) where
   pub step_is : (count size : ℕ) (last : Bool) (s : Step) → s ≡ step_of q count size last → s ≡ step_of l count size last
   step_is count size last s p = p ∙ ap (λ (y : Line). step_of y count size last) (sym is ∙ e)
 
-  pub leaves-is : (size : ℕ) (room after : List ℕ) → after ≡ stepLeaves q size room → after ≡ stepLeaves l size room
-  leaves-is size room after p = p ∙ ap (λ (y : Line). stepLeaves y size room) (sym is ∙ e)
+  pub leaves_is : (size : ℕ) (room after : List ℕ) → after ≡ step_leaves q size room → after ≡ step_leaves l size room
+  leaves_is size room after p = p ∙ ap (λ (y : Line). step_leaves y size room) (sym is ∙ e)
 
 -- a record's step does not look at what follows
-pub step-of-record : (x l : Line) (r : TableRecord) → x ≡ Record r → x ≡ l → (count size : ℕ) (last : Bool) (s : Step)
+pub step_of_record : (x l : Line) (r : TableRecord) → x ≡ Record r → x ≡ l → (count size : ℕ) (last : Bool) (s : Step)
     → s ≡ step_of (Record r) count size false → s ≡ step_of l count size last
-step-of-record x l r is e count size last s p = step_is x l (Record r) is e count size last s p
+step_of_record x l r is e count size last s p = step_is x l (Record r) is e count size last s p
 
 -- what a step says of the rest of the text, and of the room
 module _ (room : List ℕ) (long : length room ≡ 4096) (size : ℕ) (within : size ≤ 4096) (count : ℕ) (last : Bool) (rest : List ℕ → Text) where
-  so-many : length (take size room) ≡ size
-  so-many = length-take-le size room (omega arith)
+  so_many : length (take size room) ≡ size
+  so_many = length-take-le size room (omega arith)
 
   module _ (r : TableRecord) where
     same_test : leb (length (take size room) + suc (length (body_of r))) 4096 ≡ leb (size + suc (length (body_of r))) 4096
-    same_test = ap (λ (k : ℕ). leb (k + suc (length (body_of r))) 4096) so-many
+    same_test = ap (λ (k : ℕ). leb (k + suc (length (body_of r))) 4096) so_many
 
     longer : leb (size + suc (length (body_of r))) 4096 ≡ true
         → take (size + suc (length (body_of r))) (put_at room size (kind_of r ∷ body_of r)) ≡ take size room ++ (kind_of r ∷ body_of r)
     longer t =
         take_at (take size room ++ (kind_of r ∷ body_of r)) (drop (size + suc (length (body_of r))) room) (size + suc (length (body_of r)))
-        (omega (arith, so-many, length-append (take size room) (kind_of r ∷ body_of r)))
+        (omega (arith, so_many, length-append (take size room) (kind_of r ∷ body_of r)))
 
     as_long : leb (size + suc (length (body_of r))) 4096 ≡ true → length (put_at room size (kind_of r ∷ body_of r)) ≡ 4096
     as_long t =
         omega (
           arith,
           leb-true (size + suc (length (body_of r))) 4096 t,
-          so-many,
+          so_many,
           length-append (take size room ++ (kind_of r ∷ body_of r)) (drop (size + suc (length (body_of r))) room),
           length-append (take size room) (kind_of r ∷ body_of r),
           length-drop (size + suc (length (body_of r))) room,
@@ -162,39 +162,39 @@ module _ (room : List ℕ) (long : length room ≡ 4096) (size : ℕ) (within : 
   -- where it is over
   over : (l : Line) → (step_of l count size last).is_over ≡ true
       → (record { bad_line = (step_of l count size last).bad_line; size = (step_of l count size last).size }
-      ≡ made_of (goOn l count (take size room) last rest))
-      × (take (step_of l count size last).size (stepLeaves l size room) ≡ bytesMade (goOn l count (take size room) last rest))
+      ≡ made_of (go_on l count (take size room) last rest))
+      × (take (step_of l count size last).size (step_leaves l size room) ≡ bytes_made (go_on l count (take size room) last rest))
   over (Record r) y = by (leb (size + suc (length (body_of r))) 4096) refl
     where
       by : (t : Bool) → leb (size + suc (length (body_of r))) 4096 ≡ t
           → (record { bad_line = (step_of (Record r) count size last).bad_line; size = (step_of (Record r) count size last).size }
-          ≡ made_of (goOn (Record r) count (take size room) last rest))
-          × (take (step_of (Record r) count size last).size (stepLeaves (Record r) size room)
-          ≡ bytesMade (goOn (Record r) count (take size room) last rest))
+          ≡ made_of (go_on (Record r) count (take size room) last rest))
+          × (take (step_of (Record r) count size last).size (step_leaves (Record r) size room)
+          ≡ bytes_made (go_on (Record r) count (take size room) last rest))
       by true p = absurd (true≢false (sym y ∙ rw p))
       by false p = (rw (same_test r, p), rw (same_test r, p))
   over Count y = by last refl
     where
       by : (t : Bool) → last ≡ t
           → (record { bad_line = (step_of Count count size last).bad_line; size = (step_of Count count size last).size }
-          ≡ made_of (goOn Count count (take size room) last rest))
-          × (take (step_of Count count size last).size (stepLeaves Count size room) ≡ bytesMade (goOn Count count (take size room) last rest))
-      by true p = (rw p (ap (λ (k : ℕ). record { bad_line = 0; size = k }) (sym so-many)), rw p)
+          ≡ made_of (go_on Count count (take size room) last rest))
+          × (take (step_of Count count size last).size (step_leaves Count size room) ≡ bytes_made (go_on Count count (take size room) last rest))
+      by true p = (rw p (ap (λ (k : ℕ). record { bad_line = 0; size = k }) (sym so_many)), rw p)
       by false p = (rw p, rw p)
   over Unreadable y = (refl, refl)
 
   -- where it goes on
   on : (l : Line) → (step_of l count size last).is_over ≡ false
-      → (goOn l count (take size room) last rest ≡ rest (take (step_of l count size last).size (stepLeaves l size room)))
+      → (go_on l count (take size room) last rest ≡ rest (take (step_of l count size last).size (step_leaves l size room)))
       × ((step_of l count size last).size ≤ 4096)
-      × (length (stepLeaves l size room) ≡ 4096)
+      × (length (step_leaves l size room) ≡ 4096)
   on (Record r) n = by (leb (size + suc (length (body_of r))) 4096) refl
     where
       by : (t : Bool) → leb (size + suc (length (body_of r))) 4096 ≡ t
-          → (goOn (Record r) count (take size room) last rest
-          ≡ rest (take (step_of (Record r) count size last).size (stepLeaves (Record r) size room)))
+          → (go_on (Record r) count (take size room) last rest
+          ≡ rest (take (step_of (Record r) count size last).size (step_leaves (Record r) size room)))
           × ((step_of (Record r) count size last).size ≤ 4096)
-          × (length (stepLeaves (Record r) size room) ≡ 4096)
+          × (length (step_leaves (Record r) size room) ≡ 4096)
       by true p = (
         rw (same_test r, p) (ap rest (sym (longer r p))),
         rw p (leb-true (size + suc (length (body_of r))) 4096 p),
@@ -204,9 +204,9 @@ module _ (room : List ℕ) (long : length room ≡ 4096) (size : ℕ) (within : 
   on Count n = by last refl
     where
       by : (t : Bool) → last ≡ t
-          → (goOn Count count (take size room) last rest ≡ rest (take (step_of Count count size last).size (stepLeaves Count size room)))
+          → (go_on Count count (take size room) last rest ≡ rest (take (step_of Count count size last).size (step_leaves Count size room)))
           × ((step_of Count count size last).size ≤ 4096)
-          × (length (stepLeaves Count size room) ≡ 4096)
+          × (length (step_leaves Count size room) ≡ 4096)
       by true p = absurd (true≢false (sym (sym n ∙ rw p)))
       by false p = absurd (true≢false (sym (sym n ∙ rw p)))
   on Unreadable n = absurd (true≢false n)
@@ -219,21 +219,21 @@ either_way true false = refl
 either_way false true = refl
 either_way false false = refl
 
-pub text-starts : (more : Bool) (text room : List ℕ) → text_of more text ≡ textFrom more (take (0 - 0) (drop 0 text)) 0 (take 0 room) (drop 0 text)
-text-starts more text room = refl
+pub text_starts : (more : Bool) (text room : List ℕ) → text_of more text ≡ text_from more (take (0 - 0) (drop 0 text)) 0 (take 0 room) (drop 0 text)
+text_starts more text room = refl
 
 -- before byte i, behind a line that began at `from`, count records and their bytes
 module _ (more : Bool) (text : List ℕ) (i from count : ℕ) (bytes : List ℕ)
-    (so_far : text_of more text ≡ textFrom more (take (i - from) (drop from text)) count bytes (drop i text)) (n : ℕ) (l : n ≡ length text) where
+    (so_far : text_of more text ≡ text_from more (take (i - from) (drop from text)) count bytes (drop i text)) (n : ℕ) (l : n ≡ length text) where
   module _ (h : i < n) where
     here : drop i text ≡ get_or text i 0 ∷ drop (i + 1) text
     here = let g : i < length text = omega arith in drop-cons text i 0 g ∙ ap (λ (k : ℕ). get_or text i 0 ∷ drop k text) (sym (add-one i))
 
     -- a byte of the line
     pub one_byte : from ≤ i → (get_or text i 0 ≡ 10 → ⊥)
-        → text_of more text ≡ textFrom more (take (i + 1 - from) (drop from text)) count bytes (drop (i + 1) text)
-    unfolding textFrom
-    one_byte b d = so_far ∙ rw (here, ne_eqb (get_or text i 0) 10 d) (ap (λ (u : List ℕ). textFrom more u count bytes (drop (i + 1) text)) (sym longer-line))
+        → text_of more text ≡ text_from more (take (i + 1 - from) (drop from text)) count bytes (drop (i + 1) text)
+    unfolding text_from
+    one_byte b d = so_far ∙ rw (here, ne_eqb (get_or text i 0) 10 d) (ap (λ (u : List ℕ). text_from more u count bytes (drop (i + 1) text)) (sym longer_line))
       where
         inside : i - from < length (drop from text)
         inside = omega (arith, h, b, l, length-drop from text)
@@ -241,8 +241,8 @@ module _ (more : Bool) (text : List ℕ) (i from count : ℕ) (bytes : List ℕ)
         byte : get_or (drop from text) (i - from) 0 ≡ get_or text i 0
         byte = let k : from + (i - from) ≡ i = omega (arith, b) in get_or-drop from text (i - from) 0 ∙ ap (λ (j : ℕ). get_or text j 0) k
 
-        longer-line : take (i + 1 - from) (drop from text) ≡ take (i - from) (drop from text) ++ (get_or text i 0 ∷ [])
-        longer-line =
+        longer_line : take (i + 1 - from) (drop from text) ≡ take (i - from) (drop from text) ++ (get_or text i 0 ∷ [])
+        longer_line =
             let k : i + 1 - from ≡ suc (i - from) = omega (arith, b) in
             ap (λ (j : ℕ). take j (drop from text)) k
             ∙ take-suc (drop from text) (i - from) 0 inside
@@ -250,90 +250,90 @@ module _ (more : Bool) (text : List ℕ) (i from count : ℕ) (bytes : List ℕ)
 
     -- the line's end
     module _ (e : get_or text i 0 ≡ 10) (last : Bool) (q : last ≡ cond more false (eqb (i + 1) n)) where
-      nothing_left : isNil (drop (i + 1) text) ≡ eqb (i + 1) n
+      nothing_left : is_nil (drop (i + 1) text) ≡ eqb (i + 1) n
       nothing_left = by (eqb (i + 1) n) refl
         where
-          by : (t : Bool) → eqb (i + 1) n ≡ t → isNil (drop (i + 1) text) ≡ eqb (i + 1) n
+          by : (t : Bool) → eqb (i + 1) n ≡ t → is_nil (drop (i + 1) text) ≡ eqb (i + 1) n
           by true p =
               let end : i + 1 ≡ length text = eqb-true (i + 1) n p ∙ l in
-              ap (λ (k : ℕ). isNil (drop k text)) end ∙ ap isNil (drop-length text) ∙ sym p
+              ap (λ (k : ℕ). is_nil (drop k text)) end ∙ ap is_nil (drop-length text) ∙ sym p
           by false p =
               let more_left : i + 1 < length text = omega (arith, h, l, eqb-false (i + 1) n p) in
-              ap isNil (drop-cons text (i + 1) 0 more_left) ∙ sym p
+              ap is_nil (drop-cons text (i + 1) 0 more_left) ∙ sym p
 
-      last-is : (isNil (drop (i + 1) text) && not more) ≡ last
-      last-is = ap (λ (t : Bool). t && not more) nothing_left ∙ either_way more (eqb (i + 1) n) ∙ sym q
+      last_is : (is_nil (drop (i + 1) text) && not more) ≡ last
+      last_is = ap (λ (t : Bool). t && not more) nothing_left ∙ either_way more (eqb (i + 1) n) ∙ sym q
 
       abbrev then : List ℕ → Text
-      then longer = textFrom more [] (count + 1) longer (drop (i + 1) text)
+      then longer = text_from more [] (count + 1) longer (drop (i + 1) text)
 
-      line-ends : text_of more text ≡ goOn (line_of count (take (i - from) (drop from text))) count bytes last then
-      unfolding textFrom
-      line-ends =
+      line_ends : text_of more text ≡ go_on (line_of count (take (i - from) (drop from text))) count bytes last then
+      unfolding text_from
+      line_ends =
           so_far
           ∙ rw (here, eq-eqb (get_or text i 0) 10 e)
-          (ap (λ (b : Bool). goOn (line_of count (take (i - from) (drop from text))) count bytes b then) last-is)
+          (ap (λ (b : Bool). go_on (line_of count (take (i - from) (drop from text))) count bytes b then) last_is)
 
   module _ (h : i ≤ n) (g : n ≤ i) where
-    text-ends : text_of more text ≡ badLine (count + 1)
-    unfolding textFrom
-    text-ends = let end : i ≡ length text = omega arith in so_far ∙ rw (end, drop-length text)
+    text_ends : text_of more text ≡ bad_line (count + 1)
+    unfolding text_from
+    text_ends = let end : i ≡ length text = omega arith in so_far ∙ rw (end, drop-length text)
 
-    pub bad-made : record { bad_line = count + 1; size = 0 } ≡ made_of (text_of more text)
-    bad-made = rw text-ends
+    pub bad_made : record { bad_line = count + 1; size = 0 } ≡ made_of (text_of more text)
+    bad_made = rw text_ends
 
-    pub bad-left : [] ≡ bytesMade (text_of more text)
-    bad-left = rw text-ends
+    pub bad_left : [] ≡ bytes_made (text_of more text)
+    bad_left = rw text_ends
 
 -- the same where the bytes are those at the front of the room, and the code took a step
 module _ (more : Bool) (text : List ℕ) (i from count size : ℕ) (room : List ℕ)
-    (so_far : text_of more text ≡ textFrom more (take (i - from) (drop from text)) count (take size room) (drop i text)) (n : ℕ) (l : n ≡ length text)
+    (so_far : text_of more text ≡ text_from more (take (i - from) (drop from text)) count (take size room) (drop i text)) (n : ℕ) (l : n ≡ length text)
     (h : i < n) (e : get_or text i 0 ≡ 10) (last : Bool) (q : last ≡ cond more false (eqb (i + 1) n)) (long : length room ≡ 4096) (within : size ≤ 4096)
     (s : Step) (p : s ≡ step_of (line_of count (take (i - from) (drop from text))) count size last) (after : List ℕ)
-    (a : after ≡ stepLeaves (line_of count (take (i - from) (drop from text))) size room) where
+    (a : after ≡ step_leaves (line_of count (take (i - from) (drop from text))) size room) where
   abbrev line : Line
   line = line_of count (take (i - from) (drop from text))
 
   abbrev rest : List ℕ → Text
   rest = then more text i from count (take size room) so_far n l h e last q
 
-  ends : text_of more text ≡ goOn line count (take size room) last rest
-  ends = line-ends more text i from count (take size room) so_far n l h e last q
+  ends : text_of more text ≡ go_on line count (take size room) last rest
+  ends = line_ends more text i from count (take size room) so_far n l h e last q
 
-  over-is : (t : Bool) → s.is_over ≡ t → (step_of line count size last).is_over ≡ t
-  over-is t y = sym (ap (λ (x : Step). x.is_over) p) ∙ y
+  over_is : (t : Bool) → s.is_over ≡ t → (step_of line count size last).is_over ≡ t
+  over_is t y = sym (ap (λ (x : Step). x.is_over) p) ∙ y
 
   module _ (y : s.is_over ≡ true) where
-    pub made-is : record { bad_line = s.bad_line; size = s.size } ≡ made_of (text_of more text)
-    made-is = rw (ends, p) (over room long size within count last rest line (over-is true y)).0
+    pub made_is : record { bad_line = s.bad_line; size = s.size } ≡ made_of (text_of more text)
+    made_is = rw (ends, p) (over room long size within count last rest line (over_is true y)).0
 
-    pub left_is : take s.size after ≡ bytesMade (text_of more text)
-    left_is = rw (ends, p, a) (over room long size within count last rest line (over-is true y)).1
+    pub left_is : take s.size after ≡ bytes_made (text_of more text)
+    left_is = rw (ends, p, a) (over room long size within count last rest line (over_is true y)).1
 
   module _ (y : s.is_over ≡ false) where
-    goes : (goOn line count (take size room) last rest ≡ rest (take (step_of line count size last).size (stepLeaves line size room)))
+    goes : (go_on line count (take size room) last rest ≡ rest (take (step_of line count size last).size (step_leaves line size room)))
         × ((step_of line count size last).size ≤ 4096)
-        × (length (stepLeaves line size room) ≡ 4096)
-    goes = on room long size within count last rest line (over-is false y)
+        × (length (step_leaves line size room) ≡ 4096)
+    goes = on room long size within count last rest line (over_is false y)
 
-    pub next-line : text_of more text ≡ textFrom more (take (i + 1 - (i + 1)) (drop (i + 1) text)) (count + 1) (take s.size after) (drop (i + 1) text)
-    next-line =
+    pub next_line : text_of more text ≡ text_from more (take (i + 1 - (i + 1)) (drop (i + 1) text)) (count + 1) (take s.size after) (drop (i + 1) text)
+    next_line =
         let none : i + 1 - (i + 1) ≡ 0 = omega arith in
         ends ∙ goes.0 ∙ rw (none, p, a)
 
-    pub next-size : s.size ≤ 4096
-    next-size = rw p goes.1
+    pub next_size : s.size ≤ 4096
+    next_size = rw p goes.1
 
-    pub next-long : length after ≡ 4096
-    next-long = rw a goes.2
+    pub next_long : length after ≡ 4096
+    next_long = rw a goes.2
 
 -- ---- a table has at most 4096 bytes
 
 going : (l : Line) (count : ℕ) (bytes : List ℕ) (last : Bool) (rest : List ℕ → Text) → length bytes ≤ 4096
-    → ((longer : List ℕ) → length longer ≤ 4096 → (made_of (rest longer)).size ≤ 4096) → (made_of (goOn l count bytes last rest)).size ≤ 4096
+    → ((longer : List ℕ) → length longer ≤ 4096 → (made_of (rest longer)).size ≤ 4096) → (made_of (go_on l count bytes last rest)).size ≤ 4096
 going (Record r) count bytes last rest h again = by (leb (length bytes + suc (length (body_of r))) 4096) refl
   where
-    by : (t : Bool) → leb (length bytes + suc (length (body_of r))) 4096 ≡ t → (made_of (goOn (Record r) count bytes last rest)).size ≤ 4096
+    by : (t : Bool) → leb (length bytes + suc (length (body_of r))) 4096 ≡ t → (made_of (go_on (Record r) count bytes last rest)).size ≤ 4096
     by true p =
         rw p
         (again (bytes ++ (kind_of r ∷ body_of r))
@@ -341,26 +341,26 @@ going (Record r) count bytes last rest h again = by (leb (length bytes + suc (le
     by false p = rw p (omega arith)
 going Count count bytes last rest h again = by last refl
   where
-    by : (t : Bool) → last ≡ t → (made_of (goOn Count count bytes last rest)).size ≤ 4096
+    by : (t : Bool) → last ≡ t → (made_of (go_on Count count bytes last rest)).size ≤ 4096
     by true p = rw p h
     by false p = rw p (omega arith)
 going Unreadable count bytes last rest h again = omega arith
 
-from-fits : (more : Bool) (text line : List ℕ) (count : ℕ) (bytes : List ℕ) → length bytes ≤ 4096
-    → (made_of (textFrom more line count bytes text)).size ≤ 4096
-unfolding textFrom
-from-fits more [] line count bytes h = omega arith
-from-fits more (x ∷ rest) line count bytes h =
+from_fits : (more : Bool) (text line : List ℕ) (count : ℕ) (bytes : List ℕ) → length bytes ≤ 4096
+    → (made_of (text_from more line count bytes text)).size ≤ 4096
+unfolding text_from
+from_fits more [] line count bytes h = omega arith
+from_fits more (x ∷ rest) line count bytes h =
     by (eqb x 10) refl
-    (going (line_of count line) count bytes (isNil rest && not more) _ h (λ longer g. from-fits more rest [] (count + 1) longer g))
-    (from-fits more rest (line ++ (x ∷ [])) count bytes h)
+    (going (line_of count line) count bytes (is_nil rest && not more) _ h (λ longer g. from_fits more rest [] (count + 1) longer g))
+    (from_fits more rest (line ++ (x ∷ [])) count bytes h)
   where
     by : (t : Bool) → eqb x 10 ≡ t
-        → (made_of (goOn (line_of count line) count bytes (isNil rest && not more) (λ longer. textFrom more [] (count + 1) longer rest))).size ≤ 4096
-        → (made_of (textFrom more (line ++ (x ∷ [])) count bytes rest)).size ≤ 4096
-        → (made_of (textFrom more line count bytes (x ∷ rest))).size ≤ 4096
+        → (made_of (go_on (line_of count line) count bytes (is_nil rest && not more) (λ longer. text_from more [] (count + 1) longer rest))).size ≤ 4096
+        → (made_of (text_from more (line ++ (x ∷ [])) count bytes rest)).size ≤ 4096
+        → (made_of (text_from more line count bytes (x ∷ rest))).size ≤ 4096
     by true p a b = rw p a
     by false p a b = rw p b
 
-pub made-fits : (more : Bool) (text : List ℕ) (m : Made) → m ≡ made_of (text_of more text) → m.size ≤ 4096
-made-fits more text m e = rw e (from-fits more text [] 0 [] (omega arith))
+pub made_fits : (more : Bool) (text : List ℕ) (m : Made) → m ≡ made_of (text_of more text) → m.size ≤ 4096
+made_fits more text m e = rw e (from_fits more text [] 0 [] (omega arith))

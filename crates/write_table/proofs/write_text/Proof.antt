@@ -1,7 +1,7 @@
 -- `write_text` is safe: no table has more than 4096 bytes. Assumes nothing.
 use native.Mathlib.Omega.{arith}
 use borrow.Author.Rules.{rules}
-use Rattle.write_table.proofs.Laws.Text.{made-fits}
+use Rattle.write_table.proofs.Laws.Text.{made_fits}
 use Rattle.write_table.proofs.write_text.Statement.{statement}
 use Rattle.write_table.proofs.write_text.Tie as tie
 
@@ -27,7 +27,7 @@ part-print-start : tie.Need-slice-bounds-print-start
 part-print-start c = search rules
 
 part-print-end : tie.Need-slice-bounds-print-end
-part-print-end c = omega (arith, made-fits _ _ _ c.before.before.before.table-in.ensures.0)
+part-print-end c = omega (arith, made_fits _ _ _ c.before.before.before.table-in.ensures.0)
 
 print-requires : tie.Need-print-requires
 print-requires c κs = search rules

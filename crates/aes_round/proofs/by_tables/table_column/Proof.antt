@@ -1,6 +1,6 @@
 -- `table_column` meets its contract: a byte is a place of a table. Assumes nothing.
 use borrow.Author.Rules.{rules}
-use Rattle.aes_round.proofs.Laws.ByTables.{column-is}
+use Rattle.aes_round.proofs.Laws.ByTables.{column_is}
 use Rattle.aes_round.proofs.by_tables.table_column.Statement.{statement}
 use Rattle.aes_round.proofs.by_tables.table_column.Tie as tie
 
@@ -41,7 +41,7 @@ element-copy-out-q-2 : tie.Need-element-copy-out-q-2
 element-copy-out-q-2 c = search rules
 
 returns : tie.Need-returns
-returns c = column-is _ _ _ _ _ _ _ _
+returns c = column_is _ _ _ _ _ _ _ _
 
 pub table-column-spec : {M : Type 1} → statement M
 table-column-spec =

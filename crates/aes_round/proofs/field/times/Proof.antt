@@ -10,7 +10,7 @@ use lib.Bits.{and_mask, bit_and}
 use borrow.Author.Rules.{rules}
 use Rattle.aes_round.specs.Bytes.{xor}
 use Rattle.aes_round.specs.Field.{mul}
-use Rattle.aes_round.proofs.Laws.Field.{mul-zero-l, turn-0, turn-1}
+use Rattle.aes_round.proofs.Laws.Field.{mul_zero_l, turn_0, turn_1}
 use Rattle.aes_round.proofs.Laws.Xor.{xor_zero_l, xor_zero_r}
 use Rattle.aes_round.proofs.field.times.Statement.{statement}
 use Rattle.aes_round.proofs.field.times.Tie as tie
@@ -41,8 +41,8 @@ loop-again c =
       search rules,
       search rules,
       ⊎_elim
-          (λ w. cc (turn-1 L.sum L.p L.q _ L.invariant.0 L.invariant.1 (sym odd ∙ w.0.taken) L.invariant.2))
-          (λ w. cc (turn-0 L.sum L.p L.q _ L.invariant.0 L.invariant.1 (even L.p (λ e. w.0.left (odd ∙ e))) L.invariant.2))
+          (λ w. cc (turn_1 L.sum L.p L.q _ L.invariant.0 L.invariant.1 (sym odd ∙ w.0.taken) L.invariant.2))
+          (λ w. cc (turn_0 L.sum L.p L.q _ L.invariant.0 L.invariant.1 (even L.p (λ e. w.0.left (odd ∙ e))) L.invariant.2))
           c.before.if1.branch,
     )
 
@@ -50,7 +50,7 @@ returns : tie.Need-returns invariant-loop decreases-loop
 returns c =
     let L = c.before.loop in
     let z : L.p ≡ 0 = omega arith in
-    sym (xor_zero_r L.sum) ∙ ap (xor L.sum) (sym (ap (λ (k : ℕ). mul k L.q) z ∙ mul-zero-l L.q)) ∙ L.invariant.2
+    sym (xor_zero_r L.sum) ∙ ap (xor L.sum) (sym (ap (λ (k : ℕ). mul k L.q) z ∙ mul_zero_l L.q)) ∙ L.invariant.2
 
 pub times-spec : {M : Type 1} → statement M
 times-spec =

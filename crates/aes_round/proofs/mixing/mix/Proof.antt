@@ -1,7 +1,7 @@
 -- `mix` meets its contract: its four rows are those of the matrix `forward`. Assumes nothing.
 use borrow.Author.Rules.{rules}
 use Rattle.aes_round.specs.Bytes.{tab}
-use Rattle.aes_round.specs.Mixing.{forward, mixColumn}
+use Rattle.aes_round.specs.Mixing.{forward, mix_column}
 use Rattle.aes_round.proofs.Laws.Mixing.{four}
 use Rattle.aes_round.proofs.mixing.mix.Statement.{statement}
 use Rattle.aes_round.proofs.mixing.mix.Tie as tie
@@ -67,7 +67,7 @@ product-requires-4 : tie.Need-product-requires-4
 product-requires-4 c κs = search rules
 
 returns : tie.Need-returns
-unfolding mixColumn tab forward
+unfolding mix_column tab forward
 returns c = search four
 
 pub mix-spec : {M : Type 1} → statement M

@@ -1,7 +1,7 @@
 -- `mix_back` meets its contract: its four rows are those of the matrix `backward`. Assumes nothing.
 use borrow.Author.Rules.{rules}
 use Rattle.aes_round.specs.Bytes.{tab}
-use Rattle.aes_round.specs.Mixing.{backward, mixColumn}
+use Rattle.aes_round.specs.Mixing.{backward, mix_column}
 use Rattle.aes_round.proofs.Laws.Mixing.{four}
 use Rattle.aes_round.proofs.mixing.mix_back.Statement.{statement}
 use Rattle.aes_round.proofs.mixing.mix_back.Tie as tie
@@ -67,7 +67,7 @@ product-requires-4 : tie.Need-product-requires-4
 product-requires-4 c κs = search rules
 
 returns : tie.Need-returns
-unfolding mixColumn tab backward
+unfolding mix_column tab backward
 returns c = search four
 
 pub mix-back-spec : {M : Type 1} → statement M

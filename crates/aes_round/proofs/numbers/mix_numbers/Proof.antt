@@ -1,6 +1,6 @@
 -- `mix_numbers` meets its contract, a row of the matrix by one doubling. Assumes nothing.
 use borrow.Author.Rules.{rules}
-use Rattle.aes_round.proofs.Laws.Numbers.{mix-numbers-are}
+use Rattle.aes_round.proofs.Laws.Numbers.{mix_numbers_are}
 use Rattle.aes_round.proofs.numbers.mix_numbers.Statement.{statement}
 use Rattle.aes_round.proofs.numbers.mix_numbers.Tie as tie
 
@@ -65,7 +65,7 @@ double-each-requires-4 : tie.Need-double-each-requires-4
 double-each-requires-4 c κs = search rules
 
 returns : tie.Need-returns
-returns c = search (mix-numbers-are, rules)
+returns c = search (mix_numbers_are, rules)
 
 pub mix-numbers-spec : {M : Type 1} → statement M
 mix-numbers-spec =

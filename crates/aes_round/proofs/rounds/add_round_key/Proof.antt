@@ -2,9 +2,9 @@
 use Prim.Native.Nat.{◌-◌}
 use lib.ListN.{get_or}
 use borrow.Author.Rules.{rules}
-use Rattle.aes_round.specs.Bytes.{xor, xorBytes}
-use Rattle.aes_round.specs.Rounds.{addRoundKey}
-use Rattle.aes_round.proofs.Promises.{Filled, fill-all, fill_more, fill_none}
+use Rattle.aes_round.specs.Bytes.{xor, xor_bytes}
+use Rattle.aes_round.specs.Rounds.{add_round_key}
+use Rattle.aes_round.proofs.Promises.{Filled, fill_all, fill_more, fill_none}
 use Rattle.aes_round.proofs.rounds.add_round_key.Statement.{statement}
 use Rattle.aes_round.proofs.rounds.add_round_key.Tie as tie
 
@@ -37,8 +37,8 @@ unfolding xor
 loop-again c = search fill_more
 
 returns : tie.Need-returns invariant-loop decreases-loop
-unfolding addRoundKey xorBytes
-returns c = search fill-all
+unfolding add_round_key xor_bytes
+returns c = search fill_all
 
 pub add-round-key-spec : {M : Type 1} → statement M
 add-round-key-spec =

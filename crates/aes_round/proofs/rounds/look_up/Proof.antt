@@ -4,7 +4,7 @@ use lib.ListN.{get_or}
 use mir.Syntax.{w8}
 use mir.Val.{Fits}
 use borrow.Author.Rules.{rules}
-use Rattle.aes_round.proofs.Promises.{Filled, fill-all, fill_more, fill_none}
+use Rattle.aes_round.proofs.Promises.{Filled, fill_all, fill_more, fill_none}
 use Rattle.aes_round.proofs.rounds.look_up.Statement.{statement}
 use Rattle.aes_round.proofs.rounds.look_up.Tie as tie
 
@@ -39,7 +39,7 @@ loop-again : tie.Need-loop-preserved invariant-loop decreases-loop
 loop-again c = search fill_more
 
 returns : tie.Need-returns invariant-loop decreases-loop
-returns c = search fill-all
+returns c = search fill_all
 
 pub look-up-spec : {M : Type 1} → statement M
 look-up-spec =

@@ -1,6 +1,6 @@
 -- `mix_columns_back` meets its contract: each column is `mix_back`'s. Assumes nothing.
 use borrow.Author.Rules.{rules}
-use Rattle.aes_round.proofs.Laws.Rounds.{mix-columns-are}
+use Rattle.aes_round.proofs.Laws.Rounds.{mix_columns_are}
 use Rattle.aes_round.proofs.rounds.mix_columns_back.Statement.{statement}
 use Rattle.aes_round.proofs.rounds.mix_columns_back.Tie as tie
 
@@ -32,7 +32,7 @@ word-of-requires : tie.Need-word-of-requires
 word-of-requires c κs = search rules
 
 returns : tie.Need-returns
-returns c = search mix-columns-are
+returns c = search mix_columns_are
 
 pub mix-columns-back-spec : {M : Type 1} → statement M
 mix-columns-back-spec =

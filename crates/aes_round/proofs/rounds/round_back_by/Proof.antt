@@ -1,7 +1,7 @@
 -- `round_back_by` meets its contract, step by step. Assumes nothing.
 use borrow.Author.Rules.{rules}
 use Rattle.aes_round.proofs.Laws.Bytes.{bytes_fit}
-use Rattle.aes_round.proofs.Laws.Rounds.{round-steps-back}
+use Rattle.aes_round.proofs.Laws.Rounds.{round_steps_back}
 use Rattle.aes_round.proofs.rounds.round_back_by.Statement.{statement}
 use Rattle.aes_round.proofs.rounds.round_back_by.Tie as tie
 
@@ -18,7 +18,7 @@ look-up-requires : tie.Need-look-up-requires
 look-up-requires c κs = search rules
 
 returns : tie.Need-returns
-returns c = search (round-steps-back, bytes_fit, rules)
+returns c = search (round_steps_back, bytes_fit, rules)
 
 pub round-back-by-spec : {M : Type 1} → statement M
 round-back-by-spec =

@@ -1,7 +1,7 @@
 -- `round_by` meets its contract, step by step. Assumes nothing.
 use borrow.Author.Rules.{rules}
 use Rattle.aes_round.proofs.Laws.Bytes.{bytes_fit}
-use Rattle.aes_round.proofs.Laws.Rounds.{round-steps}
+use Rattle.aes_round.proofs.Laws.Rounds.{round_steps}
 use Rattle.aes_round.proofs.rounds.round_by.Statement.{statement}
 use Rattle.aes_round.proofs.rounds.round_by.Tie as tie
 
@@ -18,7 +18,7 @@ add-round-key-requires : tie.Need-add-round-key-requires
 add-round-key-requires c κs = search rules
 
 returns : tie.Need-returns
-returns c = search (round-steps, bytes_fit, rules)
+returns c = search (round_steps, bytes_fit, rules)
 
 pub round-by-spec : {M : Type 1} → statement M
 round-by-spec =

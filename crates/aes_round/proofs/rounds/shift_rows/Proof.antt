@@ -3,7 +3,7 @@ use mathlib.Core.Path.{◌∙◌}
 use Prim.Native.Nat.{◌%◌, ◌*◌, ◌-◌}
 use lib.ListN.{get_or}
 use borrow.Author.Rules.{rules}
-use Rattle.aes_round.proofs.Promises.{Filled, fill-all, fill_more, fill_none}
+use Rattle.aes_round.proofs.Promises.{Filled, fill_all, fill_more, fill_none}
 use Rattle.aes_round.proofs.Laws.Rounds.{shift_word}
 use Rattle.aes_round.proofs.rounds.shift_rows.Statement.{statement}
 use Rattle.aes_round.proofs.rounds.shift_rows.Tie as tie
@@ -36,7 +36,7 @@ loop-again : tie.Need-loop-preserved invariant-loop decreases-loop
 loop-again c = search fill_more
 
 returns : tie.Need-returns invariant-loop decreases-loop
-returns c = fill-all _ _ _ _ _ c.before.loop.invariant (search rules) ∙ shift_word _
+returns c = fill_all _ _ _ _ _ c.before.loop.invariant (search rules) ∙ shift_word _
 
 pub shift-rows-spec : {M : Type 1} → statement M
 shift-rows-spec =

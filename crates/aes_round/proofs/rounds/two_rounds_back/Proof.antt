@@ -1,6 +1,6 @@
 -- `two_rounds_back` meets its contract: two rounds back by one table. Assumes nothing.
 use borrow.Author.Rules.{rules}
-use Rattle.aes_round.specs.Rounds.{aesRoundBack}
+use Rattle.aes_round.specs.Rounds.{aes_round_back}
 use Rattle.aes_round.proofs.Laws.Rounds.{twice}
 use Rattle.aes_round.proofs.rounds.two_rounds_back.Statement.{statement}
 use Rattle.aes_round.proofs.rounds.two_rounds_back.Tie as tie
@@ -15,7 +15,7 @@ round-back-by-requires-2 : tie.Need-round-back-by-requires-2
 round-back-by-requires-2 c κs = search rules
 
 returns : tie.Need-returns
-returns c = search (twice aesRoundBack)
+returns c = search (twice aes_round_back)
 
 pub two-rounds-back-spec : {M : Type 1} → statement M
 two-rounds-back-spec =

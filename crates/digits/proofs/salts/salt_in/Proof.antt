@@ -3,8 +3,8 @@ use mathlib.Core.Path.{◌≡◌}
 use Prim.Native.Nat.{◌*◌, ◌-◌, ◌≤◌}
 use lib.ListN.{drop, length, take}
 use borrow.Author.Rules.{rules}
-use Rattle.digits.specs.Salts.{noSalt, saltFrom, saltOf}
-use Rattle.digits.proofs.Laws.Salts.{no-high, no-low, no-salt, salt-begins, salt-ends, salt-goes-on}
+use Rattle.digits.specs.Salts.{no_salt, salt_from, salt_of}
+use Rattle.digits.proofs.Laws.Salts.{no_high, no_low, no_salt_lem, salt_begins, salt_ends, salt_goes_on}
 use Rattle.digits.proofs.salts.salt_in.Statement.{statement}
 use Rattle.digits.proofs.salts.salt_in.Tie as tie
 
@@ -13,17 +13,17 @@ invariant-loop word none bytes₀ i₀ bytes i =
     (i ≤ 16)
     × (length word ≡ 32)
     × (length bytes ≡ 16)
-    × (none ≡ noSalt)
-    × (saltOf word ≡ saltFrom (take i bytes) (drop (2 * i) word))
+    × (none ≡ no_salt)
+    × (salt_of word ≡ salt_from (take i bytes) (drop (2 * i) word))
 
 abbrev decreases-loop : tie.decreases-loop
 decreases-loop word none bytes₀ i₀ bytes i = 16 - i
 
 returns : tie.Need-returns invariant-loop decreases-loop
-returns c = search no-salt
+returns c = search no_salt_lem
 
 loop-holds : tie.Need-loop-init invariant-loop decreases-loop
-loop-holds c = (search rules, search rules, search rules, search rules, search salt-begins)
+loop-holds c = (search rules, search rules, search rules, search rules, search salt_begins)
 
 mul-nibble : tie.Need-overflow-mul-nibble invariant-loop decreases-loop
 mul-nibble c = search rules
@@ -47,10 +47,10 @@ nibble-requires-2 : tie.Need-nibble-requires-2 invariant-loop decreases-loop
 nibble-requires-2 c κs = search rules
 
 returns-2 : tie.Need-returns-2 invariant-loop decreases-loop
-returns-2 c = search no-high
+returns-2 c = search no_high
 
 returns-3 : tie.Need-returns-3 invariant-loop decreases-loop
-returns-3 c = search no-low
+returns-3 c = search no_low
 
 mul-bytes : tie.Need-overflow-mul-bytes invariant-loop decreases-loop
 mul-bytes c = search rules
@@ -68,10 +68,10 @@ loop-less : tie.Need-loop-smaller invariant-loop decreases-loop
 loop-less c = search rules
 
 loop-again : tie.Need-loop-preserved invariant-loop decreases-loop
-loop-again c = (search rules, search rules, search rules, search rules, search salt-goes-on)
+loop-again c = (search rules, search rules, search rules, search rules, search salt_goes_on)
 
 returns-4 : tie.Need-returns-4 invariant-loop decreases-loop
-returns-4 c = search salt-ends
+returns-4 c = search salt_ends
 
 pub salt-in-spec : {M : Type 1} → statement M
 salt-in-spec =

@@ -1,6 +1,6 @@
--- `clear_behind` meets its contract: `clear-is` says so of every byte. Assumes nothing.
+-- `clear_behind` meets its contract: `clear_is` says so of every byte. Assumes nothing.
 use Rattle.std.proofs.Common.{rules}
-use Rattle.echo.proofs.Laws.BitTests.{clear-is}
+use Rattle.echo.proofs.Laws.BitTests.{clear_is}
 use Rattle.echo.proofs.bits.clear_behind.Statement.{statement}
 use Rattle.echo.proofs.bits.clear_behind.Tie as tie
 
@@ -11,7 +11,7 @@ shl-result : tie.Need-overflow-shl-result
 shl-result c = search rules
 
 returns : tie.Need-returns
-returns c = clear-is c.args.x c.args.used (search rules) (search rules)
+returns c = clear_is c.args.x c.args.used (search rules) (search rules)
 
 pub clear-behind-spec : {M : Type 1} → statement M
 clear-behind-spec = tie.close (tie.spec cast-result shl-result returns)

@@ -1,6 +1,6 @@
 -- `marked` meets its contract: where no bit is set below, the sum is a byte. Assumes nothing.
 use Rattle.std.proofs.Common.{rules}
-use Rattle.echo.proofs.Laws.BitTests.{mark-fits, mark-is}
+use Rattle.echo.proofs.Laws.BitTests.{mark_fits, mark_is}
 use Rattle.echo.proofs.bits.marked.Statement.{statement}
 use Rattle.echo.proofs.bits.marked.Tie as tie
 
@@ -11,10 +11,10 @@ shr-result : tie.Need-overflow-shr-result
 shr-result c = search rules
 
 add-result : tie.Need-overflow-add-result
-add-result c = search (mark-fits, rules)
+add-result c = search (mark_fits, rules)
 
 returns : tie.Need-returns
-returns c = search mark-is
+returns c = search mark_is
 
 pub marked-spec : {M : Type 1} → statement M
 marked-spec = tie.close (tie.spec cast-result shr-result add-result returns)

@@ -1,6 +1,6 @@
 -- `compress_wide_in` meets its contract: load, run, and the two folds. Assumes nothing.
 use Rattle.std.proofs.Common.{rules}
-use Rattle.echo.proofs.Laws.Compression.{block-parts, compressed, some-parts, square-parts}
+use Rattle.echo.proofs.Laws.Compression.{block_parts, compressed, some_parts, square_parts}
 use Rattle.echo.proofs.compression.compress_wide_in.Statement.{statement}
 use Rattle.echo.proofs.compression.compress_wide_in.Tie as tie
 
@@ -26,16 +26,16 @@ run-requires : tie.Need-run-requires
 run-requires c κs = search rules
 
 sub-fold-in : tie.Need-overflow-sub-fold-in
-sub-fold-in c = search some-parts
+sub-fold-in c = search some_parts
 
 fold-in-requires : tie.Need-fold-in-requires
-fold-in-requires c κs = (search rules, search block-parts)
+fold-in-requires c κs = (search rules, search block_parts)
 
 slice-aggregate-fold-in : tie.Need-slice-aggregate-fold-in
 slice-aggregate-fold-in c = search rules
 
 fold-in-requires-2 : tie.Need-fold-in-requires-2
-fold-in-requires-2 c κs = (search rules, search square-parts)
+fold-in-requires-2 c κs = (search rules, search square_parts)
 
 same_length : tie.Need-same-length
 same_length c = search rules

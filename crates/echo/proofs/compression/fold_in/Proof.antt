@@ -1,6 +1,6 @@
 -- `fold_in` meets its contract, a part a turn. Assumes nothing.
 use Rattle.std.proofs.Common.{◌≡◌, ◌-◌, ◌≤◌, length, rules}
-use Rattle.echo.proofs.Laws.Compression.{all-parts, next-part-in, no-parts, part-end-fits, part-fits, part-within, parts_in}
+use Rattle.echo.proofs.Laws.Compression.{all_parts, next_part_in, no_parts, part_end_fits, part_fits, part_within, parts_in}
 use Rattle.echo.proofs.compression.fold_in.Statement.{statement}
 use Rattle.echo.proofs.compression.fold_in.Tie as tie
 
@@ -11,13 +11,13 @@ abbrev decreases-loop : tie.decreases-loop
 decreases-loop v₀ src parts c j₀ v j = parts - j
 
 loop-holds : tie.Need-loop-init invariant-loop decreases-loop
-loop-holds c = (search rules, search rules, search rules, search no-parts)
+loop-holds c = (search rules, search rules, search rules, search no_parts)
 
 mul_at : tie.Need-overflow-mul-at invariant-loop decreases-loop
-mul_at c = search part-fits
+mul_at c = search part_fits
 
 add-end : tie.Need-overflow-add-end invariant-loop decreases-loop
-add-end c = search part-end-fits
+add-end c = search part_end_fits
 
 sub-xor-in : tie.Need-overflow-sub-xor-in invariant-loop decreases-loop
 sub-xor-in c = search rules
@@ -26,7 +26,7 @@ part-xor-in-start : tie.Need-slice-bounds-xor-in-start invariant-loop decreases-
 part-xor-in-start c = search rules
 
 part-xor-in-end : tie.Need-slice-bounds-xor-in-end invariant-loop decreases-loop
-part-xor-in-end c = search part-within
+part-xor-in-end c = search part_within
 
 xor-in-requires : tie.Need-xor-in-requires invariant-loop decreases-loop
 xor-in-requires c κs = search rules
@@ -38,13 +38,13 @@ loop-less : tie.Need-loop-smaller invariant-loop decreases-loop
 loop-less c = search rules
 
 loop-again : tie.Need-loop-preserved invariant-loop decreases-loop
-loop-again c = (search rules, search rules, search rules, search next-part-in)
+loop-again c = (search rules, search rules, search rules, search next_part_in)
 
 same_length : tie.Need-same-length invariant-loop decreases-loop
 same_length c = search rules
 
 returns : tie.Need-returns invariant-loop decreases-loop
-returns c = search all-parts
+returns c = search all_parts
 
 pub fold-in-spec : {M : Type 1} → statement M
 fold-in-spec =

@@ -2,7 +2,7 @@
 use Rattle.std.proofs.Common.{◌≡◌, ◌-◌, length, get_or, refl, arith, rules}
 use Rattle.aes_round.proofs.Promises.{Filled, fill_more, fill_none}
 use Rattle.aes_round.specs.Bytes.{xor}
-use Rattle.echo.proofs.Laws.Compression.{xor_all, xor-old}
+use Rattle.echo.proofs.Laws.Compression.{xor_all, xor_old}
 use Rattle.echo.proofs.compression.xor_in.Statement.{statement}
 use Rattle.echo.proofs.compression.xor_in.Tie as tie
 
@@ -31,7 +31,7 @@ loop-less : tie.Need-loop-smaller invariant-loop decreases-loop
 loop-less c = search rules
 
 loop-again : tie.Need-loop-preserved invariant-loop decreases-loop
-loop-again c = (search rules, search (fill_more, xor-old))
+loop-again c = (search rules, search (fill_more, xor_old))
 
 same_length : tie.Need-same-length invariant-loop decreases-loop
 same_length c = omega arith

@@ -1,6 +1,6 @@
 -- `count_on` meets its contract: a lower half that went over carries one into the upper. Assumes nothing.
 use Rattle.std.proofs.Common.{rules}
-use Rattle.echo.proofs.Laws.Counter.{counted-over, counted-within}
+use Rattle.echo.proofs.Laws.Counter.{counted_over, counted_within}
 use Rattle.echo.proofs.counter.count_on.Statement.{statement}
 use Rattle.echo.proofs.counter.count_on.Tie as tie
 
@@ -11,10 +11,10 @@ wrapping-add-u64-requires-2 : tie.Need-wrapping-add-u64-requires-2
 wrapping-add-u64-requires-2 c κs = search rules
 
 returns : tie.Need-returns
-returns c = search (counted-over, rules)
+returns c = search (counted_over, rules)
 
 returns-2 : tie.Need-returns-2
-returns-2 c = search (counted-within, rules)
+returns-2 c = search (counted_within, rules)
 
 pub count-on-spec : {M : Type 1} → statement M
 count-on-spec =

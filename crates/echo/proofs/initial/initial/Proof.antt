@@ -1,7 +1,7 @@
 -- `initial` meets its contract: the loop fills the room from the front, as far as the family uses it. Assumes nothing.
 use Rattle.std.proofs.Common.{◌-◌, ◌/◌, ◌%◌, ◌^◌, ◌≤◌, replicate, refl, rules}
 use Rattle.aes_round.proofs.Promises.{Filled, fill_more, fill_none}
-use Rattle.echo.proofs.Laws.Initial.{in-room, initial-filled}
+use Rattle.echo.proofs.Laws.Initial.{in_room, initial_filled}
 use Rattle.echo.proofs.initial.initial.Statement.{statement}
 use Rattle.echo.proofs.initial.initial.Tie as tie
 
@@ -21,7 +21,7 @@ length-byte-requires : tie.Need-length-byte-requires invariant-loop decreases-lo
 length-byte-requires c κs = search
 
 array-write-v : tie.Need-array-write-v invariant-loop decreases-loop
-array-write-v c = search in-room
+array-write-v c = search in_room
 
 add-k : tie.Need-overflow-add-k invariant-loop decreases-loop
 add-k c = search rules
@@ -30,10 +30,10 @@ loop-less : tie.Need-loop-smaller invariant-loop decreases-loop
 loop-less c = search rules
 
 loop-again : tie.Need-loop-preserved invariant-loop decreases-loop
-loop-again c = (search rules, search (fill_more, in-room))
+loop-again c = (search rules, search (fill_more, in_room))
 
 returns : tie.Need-returns invariant-loop decreases-loop
-returns c = search initial-filled
+returns c = search initial_filled
 
 pub initial-spec : {M : Type 1} → statement M
 initial-spec =

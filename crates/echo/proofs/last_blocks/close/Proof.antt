@@ -1,6 +1,6 @@
 -- `close` meets its contract: the lengths stand in the block's last eighteen bytes. Assumes nothing.
 use Rattle.std.proofs.Common.{rules}
-use Rattle.echo.proofs.Laws.Ends.{closed_block, lengths-fit, lengths-within}
+use Rattle.echo.proofs.Laws.Ends.{closed_block, lengths_fit, lengths_within}
 use Rattle.echo.proofs.last_blocks.close.Statement.{statement}
 use Rattle.echo.proofs.last_blocks.close.Tie as tie
 
@@ -8,7 +8,7 @@ block-size-requires : tie.Need-block-size-requires
 block-size-requires c κs = search rules
 
 sub_at : tie.Need-overflow-sub-at
-sub_at c = search lengths-fit
+sub_at c = search lengths_fit
 
 lengths-requires : tie.Need-lengths-requires
 lengths-requires c κs = search rules
@@ -17,7 +17,7 @@ slice-aggregate-copy-in : tie.Need-slice-aggregate-copy-in
 slice-aggregate-copy-in c = search rules
 
 copy-in-requires : tie.Need-copy-in-requires
-copy-in-requires c κs = search (lengths-within, rules)
+copy-in-requires c κs = search (lengths_within, rules)
 
 compress-waiting-requires : tie.Need-compress-waiting-requires
 compress-waiting-requires c κs = search rules

@@ -1,6 +1,6 @@
 -- `lengths` meets its contract: antt computes the places. Assumes nothing.
 use Rattle.std.proofs.Common.{rules}
-use Rattle.echo.proofs.Laws.Numbers.{lengths-are}
+use Rattle.echo.proofs.Laws.Numbers.{lengths_are}
 use Rattle.echo.proofs.last_blocks.lengths.Statement.{statement}
 use Rattle.echo.proofs.last_blocks.lengths.Tie as tie
 
@@ -35,7 +35,7 @@ cast-t30 : tie.Need-overflow-cast-t30
 cast-t30 c = search rules
 
 returns : tie.Need-returns
-returns c = lengths-are c.args.bits c.args.taken (search rules)
+returns c = lengths_are c.args.bits c.args.taken (search rules)
 
 pub lengths-spec : {M : Type 1} → statement M
 lengths-spec =

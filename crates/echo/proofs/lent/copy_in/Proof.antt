@@ -1,7 +1,7 @@
 -- `copy_in` meets its contract, a byte a turn. Assumes nothing.
 use Rattle.std.proofs.Common.{◌≡◌, ◌-◌, ◌≤◌, length, refl, arith, rules}
 use Rattle.echo.specs.Placed.{Placed}
-use Rattle.echo.proofs.Laws.Placed.{place-all, place-more, place_none}
+use Rattle.echo.proofs.Laws.Placed.{place_all, place_more, place_none}
 use Rattle.echo.proofs.lent.copy_in.Statement.{statement}
 use Rattle.echo.proofs.lent.copy_in.Tie as tie
 
@@ -30,13 +30,13 @@ loop-less : tie.Need-loop-smaller invariant-loop decreases-loop
 loop-less c = search rules
 
 loop-again : tie.Need-loop-preserved invariant-loop decreases-loop
-loop-again c = (search rules, search rules, place-more _ _ _ _ _ _ c.before.before.loop.invariant.2 (search rules) refl)
+loop-again c = (search rules, search rules, place_more _ _ _ _ _ _ c.before.before.loop.invariant.2 (search rules) refl)
 
 same_length : tie.Need-same-length invariant-loop decreases-loop
 same_length c = omega arith
 
 returns : tie.Need-returns invariant-loop decreases-loop
-returns c = search place-all
+returns c = search place_all
 
 pub copy_in_spec : {M : Type 1} → statement M
 copy_in_spec =

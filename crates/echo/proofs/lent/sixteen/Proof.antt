@@ -1,6 +1,6 @@
 -- `sixteen` meets its contract: the loop fills the word from the front. Assumes nothing.
 use Rattle.std.proofs.Common.{◌+◌, ◌-◌, get_or, rules}
-use Rattle.aes_round.proofs.Promises.{Filled, fill-all, fill_more, fill_none}
+use Rattle.aes_round.proofs.Promises.{Filled, fill_all, fill_more, fill_none}
 use Rattle.echo.proofs.lent.sixteen.Statement.{statement}
 use Rattle.echo.proofs.lent.sixteen.Tie as tie
 
@@ -32,7 +32,7 @@ loop-again : tie.Need-loop-preserved invariant-loop decreases-loop
 loop-again c = search fill_more
 
 returns : tie.Need-returns invariant-loop decreases-loop
-returns c = search fill-all
+returns c = search fill_all
 
 pub sixteen-spec : {M : Type 1} → statement M
 sixteen-spec =

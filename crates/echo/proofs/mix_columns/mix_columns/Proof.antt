@@ -1,7 +1,7 @@
 -- `mix_columns` meets its contract, a column a turn. Assumes nothing.
 use Rattle.std.proofs.Common.{◌≡◌, ◌-◌, ◌≤◌, length, rules}
-use Rattle.echo.specs.Square.{bigMixColumns}
-use Rattle.echo.proofs.Laws.Columns.{Columns, all-columns, no-columns, turn-long, turn-mixes}
+use Rattle.echo.specs.Square.{big_mix_columns}
+use Rattle.echo.proofs.Laws.Columns.{Columns, all_columns, no_columns, turn_long, turn_mixes}
 use Rattle.aes_round.specs.Mixing.{forward}
 use Rattle.echo.proofs.mix_columns.mix_columns.Statement.{statement}
 use Rattle.echo.proofs.mix_columns.mix_columns.Tie as tie
@@ -13,7 +13,7 @@ abbrev decreases-loop : tie.decreases-loop
 decreases-loop s₀ j₀ s j = 4 - j
 
 loop-holds : tie.Need-loop-init invariant-loop decreases-loop
-loop-holds c = (search rules, search rules, search no-columns)
+loop-holds c = (search rules, search rules, search no_columns)
 
 mul_at : tie.Need-overflow-mul-at invariant-loop decreases-loop
 mul_at c = search rules
@@ -40,14 +40,14 @@ loop-less : tie.Need-loop-smaller invariant-loop decreases-loop
 loop-less c = search rules
 
 loop-again : tie.Need-loop-preserved invariant-loop decreases-loop
-loop-again c = (search turn-long, search rules, search turn-mixes)
+loop-again c = (search turn_long, search rules, search turn_mixes)
 
 same_length : tie.Need-same-length invariant-loop decreases-loop
 same_length c = search rules
 
 returns : tie.Need-returns invariant-loop decreases-loop
-unfolding bigMixColumns
-returns c = search all-columns
+unfolding big_mix_columns
+returns c = search all_columns
 
 pub mix-columns-spec : {M : Type 1} → statement M
 mix-columns-spec =

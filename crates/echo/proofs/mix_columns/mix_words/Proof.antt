@@ -1,6 +1,6 @@
 -- `mix_words` meets its contract, a byte position a turn. Assumes nothing.
 use Rattle.std.proofs.Common.{◌-◌, arith, length-set, rules}
-use Rattle.echo.proofs.Laws.Columns.{Mixed, mixed-all, mixed-more, mixed-none}
+use Rattle.echo.proofs.Laws.Columns.{Mixed, mixed_all, mixed_more, mixed_none}
 use Rattle.aes_round.specs.Mixing.{forward}
 use Rattle.echo.proofs.mix_columns.mix_words.Statement.{statement}
 use Rattle.echo.proofs.mix_columns.mix_words.Tie as tie
@@ -12,7 +12,7 @@ abbrev decreases-loop : tie.decreases-loop
 decreases-loop c₀ b₀ c b = 16 - b
 
 loop-holds : tie.Need-loop-init invariant-loop decreases-loop
-loop-holds c = search mixed-none
+loop-holds c = search mixed_none
 
 slice-read-c : tie.Need-slice-read-c invariant-loop decreases-loop
 slice-read-c c = search rules
@@ -78,13 +78,13 @@ loop-less : tie.Need-loop-smaller invariant-loop decreases-loop
 loop-less c = search rules
 
 loop-again : tie.Need-loop-preserved invariant-loop decreases-loop
-loop-again c = search mixed-more
+loop-again c = search mixed_more
 
 same_length : tie.Need-same-length invariant-loop decreases-loop
 same_length c = omega arith
 
 returns : tie.Need-returns invariant-loop decreases-loop
-returns c = search mixed-all
+returns c = search mixed_all
 
 pub mix-words-spec : {M : Type 1} → statement M
 mix-words-spec =

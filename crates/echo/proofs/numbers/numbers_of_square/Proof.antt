@@ -1,7 +1,7 @@
 -- `numbers_of_square` meets its contract, a number a turn. Assumes nothing.
 use Rattle.std.proofs.Common.{◌-◌, rules}
 use Rattle.aes_round.proofs.Promises.{Filled, fill_more, fill_none}
-use Rattle.echo.proofs.Laws.SquareNumbers.{number_of, square-numbers}
+use Rattle.echo.proofs.Laws.SquareNumbers.{number_of, square_numbers}
 use Rattle.echo.proofs.numbers.numbers_of_square.Statement.{statement}
 use Rattle.echo.proofs.numbers.numbers_of_square.Tie as tie
 
@@ -36,7 +36,7 @@ loop-again : tie.Need-loop-preserved invariant-loop decreases-loop
 loop-again c = search fill_more
 
 returns : tie.Need-returns invariant-loop decreases-loop
-returns c = search square-numbers
+returns c = search square_numbers
 
 pub numbers-of-square-spec : {M : Type 1} → statement M
 numbers-of-square-spec =

@@ -1,6 +1,6 @@
 -- `numbers_of_word` meets its contract, number after number. Assumes nothing.
 use Rattle.std.proofs.Common.{rules}
-use Rattle.echo.proofs.Laws.SquareNumbers.{word-numbers}
+use Rattle.echo.proofs.Laws.SquareNumbers.{word_numbers}
 use Rattle.echo.proofs.numbers.numbers_of_word.Statement.{statement}
 use Rattle.echo.proofs.numbers.numbers_of_word.Tie as tie
 
@@ -29,7 +29,7 @@ number-at-requires-4 : tie.Need-number-at-requires-4
 number-at-requires-4 c κs = search rules
 
 returns : tie.Need-returns
-returns c = search word-numbers
+returns c = search word_numbers
 
 pub numbers-of-word-spec : {M : Type 1} → statement M
 numbers-of-word-spec =

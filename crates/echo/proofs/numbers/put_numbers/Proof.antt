@@ -1,7 +1,7 @@
 -- `put_numbers` meets its contract, a number a turn. Assumes nothing.
 use Rattle.std.proofs.Common.{◌-◌, ◌*◌, ◌≤◌, rules}
 use Rattle.aes_round.proofs.Promises.{Filled, fill_none}
-use Rattle.echo.proofs.Laws.SquareNumbers.{all-numbers, byte_at, next-number}
+use Rattle.echo.proofs.Laws.SquareNumbers.{all_numbers, byte_at, next_number}
 use Rattle.echo.proofs.numbers.put_numbers.Statement.{statement}
 use Rattle.echo.proofs.numbers.put_numbers.Tie as tie
 
@@ -33,13 +33,13 @@ loop-less : tie.Need-loop-smaller invariant-loop decreases-loop
 loop-less c = search rules
 
 loop-again : tie.Need-loop-preserved invariant-loop decreases-loop
-loop-again c = (search rules, search next-number)
+loop-again c = (search rules, search next_number)
 
 same_length : tie.Need-same-length invariant-loop decreases-loop
 same_length c = search rules
 
 returns : tie.Need-returns invariant-loop decreases-loop
-returns c = search all-numbers
+returns c = search all_numbers
 
 pub put-numbers-spec : {M : Type 1} → statement M
 put-numbers-spec =

@@ -1,6 +1,6 @@
 -- `digest_refusal` meets its contract, a case for each return. Assumes nothing.
 use Rattle.std.proofs.Common.{rules}
-use Rattle.echo.proofs.Laws.Refusals.{digest-0, digest-1, digest-2, digest-4, digest-5}
+use Rattle.echo.proofs.Laws.Refusals.{digest_0, digest_1, digest_2, digest_4, digest_5}
 use Rattle.echo.proofs.refusals.digest_refusal.Statement.{statement}
 use Rattle.echo.proofs.refusals.digest_refusal.Tie as tie
 
@@ -8,19 +8,19 @@ admitted-requires : tie.Need-admitted-requires
 admitted-requires c κs = search rules
 
 returns : tie.Need-returns
-returns c = search digest-1
+returns c = search digest_1
 
 returns-2 : tie.Need-returns-2
-returns-2 c = search digest-2
+returns-2 c = search digest_2
 
 returns-3 : tie.Need-returns-3
-returns-3 c = search digest-4
+returns-3 c = search digest_4
 
 returns-4 : tie.Need-returns-4
-returns-4 c = search digest-5
+returns-4 c = search digest_5
 
 returns-5 : tie.Need-returns-5
-returns-5 c = search digest-0
+returns-5 c = search digest_0
 
 pub digest-refusal-spec : {M : Type 1} → statement M
 digest-refusal-spec =

@@ -1,8 +1,8 @@
 -- `rounds_back_wide` meets its contract: a refusal leaves the square, and else the run is `run_back`'s. Assumes nothing.
 use Rattle.std.proofs.Common.{rules}
-use Rattle.echo.specs.Routines.{roundsBackWideLeave}
-use Rattle.echo.specs.Square.{roundsBack}
-use Rattle.echo.proofs.Laws.Refusals.{none-refused, refused, rounds-done, rounds-salt, rounds-square, rounds-words}
+use Rattle.echo.specs.Routines.{rounds_back_wide_leave}
+use Rattle.echo.specs.Square.{rounds_back}
+use Rattle.echo.proofs.Laws.Refusals.{none_refused, refused, rounds_done, rounds_salt, rounds_square, rounds_words}
 use Rattle.echo.proofs.run.rounds_back_wide.Statement.{statement}
 use Rattle.echo.proofs.run.rounds_back_wide.Tie as tie
 
@@ -10,21 +10,21 @@ rounds-wide-refusal-requires : tie.Need-rounds-wide-refusal-requires
 rounds-wide-refusal-requires c κs = search rules
 
 returns : tie.Need-returns
-unfolding roundsBackWideLeave
+unfolding rounds_back_wide_leave
 returns c = (search, search refused)
 
 sixteen-requires : tie.Need-sixteen-requires
-sixteen-requires c κs = search rounds-salt
+sixteen-requires c κs = search rounds_salt
 
 run-back-requires : tie.Need-run-back-requires
-run-back-requires c κs = (search rounds-square, search rounds-words)
+run-back-requires c κs = (search rounds_square, search rounds_words)
 
 same_length : tie.Need-same-length
 same_length c = search rules
 
 returns-2 : tie.Need-returns-2
-unfolding roundsBackWideLeave
-returns-2 c = (search none-refused, search (rounds-done roundsBack))
+unfolding rounds_back_wide_leave
+returns-2 c = (search none_refused, search (rounds_done rounds_back))
 
 pub rounds-back-wide-spec : {M : Type 1} → statement M
 rounds-back-wide-spec =

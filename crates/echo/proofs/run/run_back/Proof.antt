@@ -1,14 +1,14 @@
 -- `run_back` meets its contract, a round a turn, the last first. Assumes nothing.
 use Rattle.std.proofs.Common.{◌≡◌, ◌≤◌, length, arith, rules}
 use Rattle.echo.specs.Numbers.{halves}
-use Rattle.echo.specs.Square.{wideKeysFrom}
-use Rattle.echo.proofs.Laws.Square.{Left, all_left, less-left, none_left}
+use Rattle.echo.specs.Square.{wide_keys_from}
+use Rattle.echo.proofs.Laws.Square.{Left, all_left, less_left, none_left}
 use Rattle.echo.proofs.run.run_back.Statement.{statement}
 use Rattle.echo.proofs.run.run_back.Tie as tie
 
 abbrev invariant-loop : tie.invariant-loop
 invariant-loop s₀ count counter salt left₀ s left =
-    (length s ≡ 256) × (left ≤ count) × Left (wideKeysFrom (halves counter.low counter.high)) salt s₀ count left s
+    (length s ≡ 256) × (left ≤ count) × Left (wide_keys_from (halves counter.low counter.high)) salt s₀ count left s
 
 abbrev decreases-loop : tie.decreases-loop
 decreases-loop s₀ count counter salt left₀ s left = left
@@ -35,7 +35,7 @@ loop-less : tie.Need-loop-smaller invariant-loop decreases-loop
 loop-less c = search rules
 
 loop-again : tie.Need-loop-preserved invariant-loop decreases-loop
-loop-again c = (search rules, search rules, search less-left)
+loop-again c = (search rules, search rules, search less_left)
 
 same_length : tie.Need-same-length invariant-loop decreases-loop
 same_length c = search rules

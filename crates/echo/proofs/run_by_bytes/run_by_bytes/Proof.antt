@@ -1,19 +1,19 @@
 -- `run_by_bytes` meets its contract, a round a turn. Assumes nothing.
 use Rattle.std.proofs.Common.{◌≡◌, ◌-◌, ◌≤◌, length, arith, rules}
 use Rattle.echo.specs.Numbers.{halves}
-use Rattle.echo.specs.Square.{wideKeysFrom}
-use Rattle.echo.proofs.Laws.Square.{Ran, ran-all, ran-more, ran-none}
+use Rattle.echo.specs.Square.{wide_keys_from}
+use Rattle.echo.proofs.Laws.Square.{Ran, ran_all, ran_more, ran_none}
 use Rattle.echo.proofs.run_by_bytes.run_by_bytes.Statement.{statement}
 use Rattle.echo.proofs.run_by_bytes.run_by_bytes.Tie as tie
 
 abbrev invariant-loop : tie.invariant-loop
-invariant-loop s₀ count counter salt r₀ s r = (length s ≡ 256) × (r ≤ count) × Ran (wideKeysFrom (halves counter.low counter.high)) salt s₀ r s
+invariant-loop s₀ count counter salt r₀ s r = (length s ≡ 256) × (r ≤ count) × Ran (wide_keys_from (halves counter.low counter.high)) salt s₀ r s
 
 abbrev decreases-loop : tie.decreases-loop
 decreases-loop s₀ count counter salt r₀ s r = count - r
 
 loop-holds : tie.Need-loop-init invariant-loop decreases-loop
-loop-holds c = (search rules, search rules, search ran-none)
+loop-holds c = (search rules, search rules, search ran_none)
 
 mul-sub-words : tie.Need-overflow-mul-sub-words invariant-loop decreases-loop
 mul-sub-words c = omega arith
@@ -34,13 +34,13 @@ loop-less : tie.Need-loop-smaller invariant-loop decreases-loop
 loop-less c = search rules
 
 loop-again : tie.Need-loop-preserved invariant-loop decreases-loop
-loop-again c = (search rules, search rules, search ran-more)
+loop-again c = (search rules, search rules, search ran_more)
 
 same_length : tie.Need-same-length invariant-loop decreases-loop
 same_length c = search rules
 
 returns : tie.Need-returns invariant-loop decreases-loop
-returns c = search ran-all
+returns c = search ran_all
 
 pub run-by-bytes-spec : {M : Type 1} → statement M
 run-by-bytes-spec =

@@ -1,7 +1,7 @@
 -- `shift_and_mix` meets its contract: a turn of the inner loop stores four numbers. Assumes nothing.
 use Rattle.std.proofs.Common.{◌+◌, ◌-◌, ◌*◌, ◌<◌, ◌≤◌, rules}
-use Rattle.echo.proofs.Laws.MixedNumbers.{Stored, begin-stored, end-stored, none-stored}
-use Rattle.echo.proofs.Laws.ShiftedNumbers.{all-shifted, next-shifted, shifted}
+use Rattle.echo.proofs.Laws.MixedNumbers.{Stored, begin_stored, end_stored, none_stored}
+use Rattle.echo.proofs.Laws.ShiftedNumbers.{all_shifted, next_shifted, shifted}
 use Rattle.echo.proofs.run_by_tables.shift_and_mix.Statement.{statement}
 use Rattle.echo.proofs.run_by_tables.shift_and_mix.Tie as tie
 
@@ -18,10 +18,10 @@ abbrev decreases-loop : tie.decreases-loop
 decreases-loop s r₀ j₀ r j = 4 - j
 
 loop-holds : tie.Need-loop-init invariant-loop2 decreases-loop2 invariant-loop decreases-loop
-loop-holds c = (search rules, search (none-stored, rules))
+loop-holds c = (search rules, search (none_stored, rules))
 
 loop2-holds : tie.Need-loop2-init invariant-loop2 decreases-loop2 invariant-loop decreases-loop
-loop2-holds c = (search rules, search rules, search begin-stored)
+loop2-holds c = (search rules, search rules, search begin_stored)
 
 mul_at : tie.Need-overflow-mul-at invariant-loop2 decreases-loop2 invariant-loop decreases-loop
 mul_at c = search rules
@@ -117,7 +117,7 @@ loop2-less : tie.Need-loop2-smaller invariant-loop2 decreases-loop2 invariant-lo
 loop2-less c = search rules
 
 loop2-again : tie.Need-loop2-preserved invariant-loop2 decreases-loop2 invariant-loop decreases-loop
-loop2-again c = (search rules, search rules, search (next-shifted, rules))
+loop2-again c = (search rules, search rules, search (next_shifted, rules))
 
 add-j : tie.Need-overflow-add-j invariant-loop2 decreases-loop2 invariant-loop decreases-loop
 add-j c = search rules
@@ -126,10 +126,10 @@ loop-less : tie.Need-loop-smaller invariant-loop2 decreases-loop2 invariant-loop
 loop-less c = search rules
 
 loop-again : tie.Need-loop-preserved invariant-loop2 decreases-loop2 invariant-loop decreases-loop
-loop-again c = (search rules, search end-stored)
+loop-again c = (search rules, search end_stored)
 
 returns : tie.Need-returns invariant-loop2 decreases-loop2 invariant-loop decreases-loop
-returns c = search all-shifted
+returns c = search all_shifted
 
 pub shift-and-mix-spec : {M : Type 1} → statement M
 shift-and-mix-spec =

@@ -1,19 +1,19 @@
 -- `sub_numbers` meets its contract, a word a turn. Assumes nothing.
 use Rattle.std.proofs.Common.{◌+◌, ◌-◌, ◌≤◌, rules}
 use Rattle.echo.specs.Numbers.{halves}
-use Rattle.echo.specs.Square.{wideKeysFrom}
-use Rattle.echo.proofs.Laws.ByTables.{Substituted, all-substituted, more-substituted, none-substituted}
+use Rattle.echo.specs.Square.{wide_keys_from}
+use Rattle.echo.proofs.Laws.ByTables.{Substituted, all_substituted, more_substituted, none_substituted}
 use Rattle.echo.proofs.run_by_tables.sub_numbers.Statement.{statement}
 use Rattle.echo.proofs.run_by_tables.sub_numbers.Tie as tie
 
 abbrev invariant-loop : tie.invariant-loop
-invariant-loop t u v w counter first salt r₀ i₀ r i = (i ≤ 16) × Substituted r₀ salt (λ k. wideKeysFrom (halves counter.low counter.high) (first + k)) i r
+invariant-loop t u v w counter first salt r₀ i₀ r i = (i ≤ 16) × Substituted r₀ salt (λ k. wide_keys_from (halves counter.low counter.high) (first + k)) i r
 
 abbrev decreases-loop : tie.decreases-loop
 decreases-loop t u v w counter first salt r₀ i₀ r i = 16 - i
 
 loop-holds : tie.Need-loop-init invariant-loop decreases-loop
-loop-holds c = (search rules, search (none-substituted, rules))
+loop-holds c = (search rules, search (none_substituted, rules))
 
 mul_at : tie.Need-overflow-mul-at invariant-loop decreases-loop
 mul_at c = search rules
@@ -109,10 +109,10 @@ loop-less : tie.Need-loop-smaller invariant-loop decreases-loop
 loop-less c = search rules
 
 loop-again : tie.Need-loop-preserved invariant-loop decreases-loop
-loop-again c = (search rules, search more-substituted)
+loop-again c = (search rules, search more_substituted)
 
 returns : tie.Need-returns invariant-loop decreases-loop
-returns c = search all-substituted
+returns c = search all_substituted
 
 pub sub-numbers-spec : {M : Type 1} → statement M
 sub-numbers-spec =

@@ -1,6 +1,6 @@
 -- `word_by_tables` meets its contract: with the tables of the rows, both rounds are those of FIPS 197. Assumes nothing.
 use Rattle.std.proofs.Common.{rules}
-use Rattle.echo.proofs.Laws.ByTables.{two-by-tables}
+use Rattle.echo.proofs.Laws.ByTables.{two_by_tables}
 use Rattle.echo.proofs.run_by_tables.word_by_tables.Statement.{statement}
 use Rattle.echo.proofs.run_by_tables.word_by_tables.Tie as tie
 
@@ -26,7 +26,7 @@ round-by-tables-requires-2 : tie.Need-round-by-tables-requires-2
 round-by-tables-requires-2 c κs = search rules
 
 returns : tie.Need-returns
-returns c = search (two-by-tables, rules)
+returns c = search (two_by_tables, rules)
 
 pub word-by-tables-spec : {M : Type 1} → statement M
 word-by-tables-spec =

@@ -2,8 +2,8 @@
 use Rattle.std.proofs.Common.{◌≡◌, ◌+◌, ◌-◌, ◌*◌, ◌≤◌, length, rules}
 use Rattle.echo.specs.Placed.{Placed}
 use Rattle.echo.specs.Square.{word}
-use Rattle.echo.proofs.Laws.Placed.{place-all, place_none}
-use Rattle.echo.proofs.Laws.Rows.{pull-more}
+use Rattle.echo.proofs.Laws.Placed.{place_all, place_none}
+use Rattle.echo.proofs.Laws.Rows.{pull_more}
 use Rattle.echo.proofs.shift_rows.pull_word.Statement.{statement}
 use Rattle.echo.proofs.shift_rows.pull_word.Tie as tie
 
@@ -44,13 +44,13 @@ loop-less : tie.Need-loop-smaller invariant-loop decreases-loop
 loop-less c = search rules
 
 loop-again : tie.Need-loop-preserved invariant-loop decreases-loop
-loop-again c = (search rules, search rules, search (rules, pull-more))
+loop-again c = (search rules, search rules, search (rules, pull_more))
 
 same_length : tie.Need-same-length invariant-loop decreases-loop
 same_length c = search rules
 
 returns : tie.Need-returns invariant-loop decreases-loop
-returns c = search place-all
+returns c = search place_all
 
 pub pull-word-spec : {M : Type 1} → statement M
 pull-word-spec =

@@ -1,6 +1,6 @@
 -- `shift_rows` meets its contract: the loop turns row after row. Assumes nothing.
 use Rattle.std.proofs.Common.{◌≡◌, ◌-◌, ◌≤◌, length, refl, rules}
-use Rattle.echo.proofs.Laws.Rows.{Rows, first-row, forth, next_row, rows-forth}
+use Rattle.echo.proofs.Laws.Rows.{Rows, first_row, forth, next_row, rows_forth}
 use Rattle.echo.proofs.shift_rows.shift_rows.Statement.{statement}
 use Rattle.echo.proofs.shift_rows.shift_rows.Tie as tie
 
@@ -11,7 +11,7 @@ abbrev decreases-loop : tie.decreases-loop
 decreases-loop s₀ i₀ s i = 4 - i
 
 loop-holds : tie.Need-loop-init invariant-loop decreases-loop
-loop-holds c = (search rules, search rules, first-row forth refl _)
+loop-holds c = (search rules, search rules, first_row forth refl _)
 
 turn-row-requires : tie.Need-turn-row-requires invariant-loop decreases-loop
 turn-row-requires c κs = search rules
@@ -29,7 +29,7 @@ same_length : tie.Need-same-length invariant-loop decreases-loop
 same_length c = search rules
 
 returns : tie.Need-returns invariant-loop decreases-loop
-returns c = search rows-forth
+returns c = search rows_forth
 
 pub shift-rows-spec : {M : Type 1} → statement M
 shift-rows-spec =

@@ -1,6 +1,6 @@
 -- `shift_rows_back` meets its contract: the loop turns row after row. Assumes nothing.
 use Rattle.std.proofs.Common.{◌≡◌, ◌-◌, ◌≤◌, length, refl, rules}
-use Rattle.echo.proofs.Laws.Rows.{Rows, back, first-row, next_row, rows_back}
+use Rattle.echo.proofs.Laws.Rows.{Rows, back, first_row, next_row, rows_back}
 use Rattle.echo.proofs.shift_rows.shift_rows_back.Statement.{statement}
 use Rattle.echo.proofs.shift_rows.shift_rows_back.Tie as tie
 
@@ -11,7 +11,7 @@ abbrev decreases-loop : tie.decreases-loop
 decreases-loop s₀ i₀ s i = 4 - i
 
 loop-holds : tie.Need-loop-init invariant-loop decreases-loop
-loop-holds c = (search rules, search rules, first-row back refl _)
+loop-holds c = (search rules, search rules, first_row back refl _)
 
 sub-turn-row : tie.Need-overflow-sub-turn-row invariant-loop decreases-loop
 sub-turn-row c = search rules

@@ -1,7 +1,7 @@
 -- `turn_once` meets its contract: three words move up, and the one that was kept aside becomes the last. Assumes nothing.
 use Rattle.std.proofs.Common.{◌≡◌, ◌+◌, ◌-◌, ◌*◌, ◌≤◌, length, get_or, rules}
 use Rattle.aes_round.specs.Bytes.{tab}
-use Rattle.echo.proofs.Laws.Rows.{Up, next_up, none-up, once-along, once-others}
+use Rattle.echo.proofs.Laws.Rows.{Up, next_up, none_up, once_along, once_others}
 use Rattle.echo.proofs.shift_rows.turn_once.Statement.{statement}
 use Rattle.echo.proofs.shift_rows.turn_once.Tie as tie
 
@@ -18,7 +18,7 @@ sixteen-requires : tie.Need-sixteen-requires invariant-loop decreases-loop
 sixteen-requires c κs = search rules
 
 loop-holds : tie.Need-loop-init invariant-loop decreases-loop
-loop-holds c = (search rules, search rules, search, search none-up)
+loop-holds c = (search rules, search rules, search, search none_up)
 
 mul-pull-word : tie.Need-overflow-mul-pull-word invariant-loop decreases-loop
 mul-pull-word c = search rules
@@ -54,7 +54,7 @@ same_length : tie.Need-same-length invariant-loop decreases-loop
 same_length c = search rules
 
 returns : tie.Need-returns invariant-loop decreases-loop
-returns c = (search once-along, search once-others)
+returns c = (search once_along, search once_others)
 
 pub turn-once-spec : {M : Type 1} → statement M
 turn-once-spec =

@@ -1,6 +1,6 @@
 -- `counter_key` meets its contract: antt computes the places. Assumes nothing.
 use Rattle.std.proofs.Common.{rules}
-use Rattle.echo.proofs.Laws.Numbers.{wide-key-at}
+use Rattle.echo.proofs.Laws.Numbers.{wide_key_at}
 use Rattle.echo.proofs.sub_words.counter_key.Statement.{statement}
 use Rattle.echo.proofs.sub_words.counter_key.Tie as tie
 
@@ -56,7 +56,7 @@ cast-t51 : tie.Need-overflow-cast-t51
 cast-t51 c = search rules
 
 returns : tie.Need-returns
-returns c = search (wide-key-at, rules)
+returns c = search (wide_key_at, rules)
 
 pub counter-key-spec : {M : Type 1} → statement M
 counter-key-spec =

@@ -1,20 +1,20 @@
 -- `sub_words_back` meets its contract: the loop rewrites word after word. Assumes nothing.
 use Rattle.std.proofs.Common.{◌≡◌, ◌+◌, ◌-◌, ◌≤◌, length, rules}
 use Rattle.echo.specs.Numbers.{halves}
-use Rattle.echo.specs.Square.{wideKeysFrom}
-use Rattle.echo.proofs.Laws.Words.{Through, back, next-through, none-through, through-back}
+use Rattle.echo.specs.Square.{wide_keys_from}
+use Rattle.echo.proofs.Laws.Words.{Through, back, next_through, none_through, through_back}
 use Rattle.echo.proofs.sub_words.sub_words_back.Statement.{statement}
 use Rattle.echo.proofs.sub_words.sub_words_back.Tie as tie
 
 abbrev invariant-loop : tie.invariant-loop
 invariant-loop s₀ counter first salt j₀ s j =
-    (length s ≡ 256) × (j ≤ 16) × Through back (λ i. wideKeysFrom (halves counter.low counter.high) (first + i)) salt s₀ j s
+    (length s ≡ 256) × (j ≤ 16) × Through back (λ i. wide_keys_from (halves counter.low counter.high) (first + i)) salt s₀ j s
 
 abbrev decreases-loop : tie.decreases-loop
 decreases-loop s₀ counter first salt j₀ s j = 16 - j
 
 loop-holds : tie.Need-loop-init invariant-loop decreases-loop
-loop-holds c = (search rules, search rules, search none-through)
+loop-holds c = (search rules, search rules, search none_through)
 
 mul-sixteen : tie.Need-overflow-mul-sixteen invariant-loop decreases-loop
 mul-sixteen c = search rules
@@ -47,13 +47,13 @@ loop-less : tie.Need-loop-smaller invariant-loop decreases-loop
 loop-less c = search rules
 
 loop-again : tie.Need-loop-preserved invariant-loop decreases-loop
-loop-again c = (search rules, search rules, search (rules, next-through))
+loop-again c = (search rules, search rules, search (rules, next_through))
 
 same_length : tie.Need-same-length invariant-loop decreases-loop
 same_length c = search rules
 
 returns : tie.Need-returns invariant-loop decreases-loop
-returns c = search through-back
+returns c = search through_back
 
 pub sub-words-back-spec : {M : Type 1} → statement M
 sub-words-back-spec =

@@ -1,6 +1,6 @@
 -- `absorb` meets its contract, a whole byte a turn and the part byte at the end. Assumes nothing.
 use Rattle.std.proofs.Common.{◌≡◌, ◌-◌, ◌/◌, arith, length-set, rules}
-use Rattle.echo.proofs.Laws.Waiting.{Absorbed, absorb-more, absorb-none, absorb-part, absorb-whole, part-inside, part-within, some_block}
+use Rattle.echo.proofs.Laws.Waiting.{Absorbed, absorb_more, absorb_none, absorb_part, absorb_whole, part_inside, part_within, some_block}
 use Rattle.echo.proofs.waiting.absorb.Statement.{statement}
 use Rattle.echo.proofs.waiting.absorb.Tie as tie
 
@@ -18,7 +18,7 @@ rem-at : tie.Need-nonzero-rem-at invariant-loop decreases-loop
 rem-at c = search some_block
 
 loop-holds : tie.Need-loop-init invariant-loop decreases-loop
-loop-holds c = (search, search absorb-none)
+loop-holds c = (search, search absorb_none)
 
 shared-slice-read-put : tie.Need-shared-slice-read-put invariant-loop decreases-loop
 shared-slice-read-put c = search rules
@@ -39,13 +39,13 @@ loop-less : tie.Need-loop-smaller invariant-loop decreases-loop
 loop-less c = search rules
 
 loop-again : tie.Need-loop-preserved invariant-loop decreases-loop
-loop-again c = (search, search absorb-more)
+loop-again c = (search, search absorb_more)
 
 shared-slice-read-waiting : tie.Need-shared-slice-read-waiting invariant-loop decreases-loop
-shared-slice-read-waiting c = search part-inside
+shared-slice-read-waiting c = search part_inside
 
 slice-write-waiting : tie.Need-slice-write-waiting invariant-loop decreases-loop
-slice-write-waiting c = search part-within
+slice-write-waiting c = search part_within
 
 same_length : tie.Need-same-length invariant-loop decreases-loop
 same_length c = omega arith
@@ -54,7 +54,7 @@ same-length-2 : tie.Need-same-length-2 invariant-loop decreases-loop
 same-length-2 c = simp length-set (omega arith)
 
 returns : tie.Need-returns invariant-loop decreases-loop
-returns c = search absorb-part
+returns c = search absorb_part
 
 same-length-3 : tie.Need-same-length-3 invariant-loop decreases-loop
 same-length-3 c = omega arith
@@ -63,7 +63,7 @@ same-length-4 : tie.Need-same-length-4 invariant-loop decreases-loop
 same-length-4 c = omega arith
 
 returns-2 : tie.Need-returns-2 invariant-loop decreases-loop
-returns-2 c = search absorb-whole
+returns-2 c = search absorb_whole
 
 pub absorb-spec : {M : Type 1} → statement M
 absorb-spec =

@@ -1,7 +1,7 @@
 -- `clear` meets its contract: the loop fills the list from the front. Assumes nothing.
 use Rattle.std.proofs.Common.{◌≡◌, ◌-◌, length, refl, ◌∙◌, arith, rules}
-use Rattle.aes_round.proofs.Promises.{Filled, fill-all, fill_more, fill_none}
-use Rattle.echo.proofs.Laws.Waiting.{zeros-are}
+use Rattle.aes_round.proofs.Promises.{Filled, fill_all, fill_more, fill_none}
+use Rattle.echo.proofs.Laws.Waiting.{zeros_are}
 use Rattle.echo.proofs.waiting.clear.Statement.{statement}
 use Rattle.echo.proofs.waiting.clear.Tie as tie
 
@@ -30,7 +30,7 @@ same_length : tie.Need-same-length invariant-loop decreases-loop
 same_length c = omega arith
 
 returns : tie.Need-returns invariant-loop decreases-loop
-returns c = fill-all _ _ _ _ _ c.before.loop.invariant.1 (search rules) ∙ zeros-are _
+returns c = fill_all _ _ _ _ _ c.before.loop.invariant.1 (search rules) ∙ zeros_are _
 
 pub clear_spec : {M : Type 1} → statement M
 clear_spec =

@@ -1,8 +1,8 @@
 -- `put` meets its contract: the byte waits, or fills the block. Assumes nothing.
 use Rattle.std.proofs.Common.{rules}
 use borrow.Author.Rules.{set_long}
-use Rattle.echo.proofs.Laws.Placed.{cleared, length-cleared}
-use Rattle.echo.proofs.Laws.Waiting.{first-place, next_fits, next_place, place-within, put_full, put-more}
+use Rattle.echo.proofs.Laws.Placed.{cleared, length_cleared}
+use Rattle.echo.proofs.Laws.Waiting.{first_place, next_fits, next_place, place_within, put_full, put_more}
 use Rattle.echo.proofs.waiting.put.Statement.{statement}
 use Rattle.echo.proofs.waiting.put.Tie as tie
 
@@ -10,7 +10,7 @@ block-size-requires : tie.Need-block-size-requires
 block-size-requires c κs = search rules
 
 slice-write-waiting : tie.Need-slice-write-waiting
-slice-write-waiting c = search place-within
+slice-write-waiting c = search place_within
 
 add-if1 : tie.Need-overflow-add-if1
 add-if1 c = search next_fits
@@ -22,7 +22,7 @@ same_length : tie.Need-same-length
 same_length c = search rules
 
 returns : tie.Need-returns
-returns c = (search next_place, search put-more)
+returns c = (search next_place, search put_more)
 
 add-compress-waiting : tie.Need-overflow-add-compress-waiting
 add-compress-waiting c = search rules
@@ -37,10 +37,10 @@ same-length-2 : tie.Need-same-length-2
 same-length-2 c = search rules
 
 same-length-3 : tie.Need-same-length-3
-same-length-3 c = search length-cleared
+same-length-3 c = search length_cleared
 
 returns-2 : tie.Need-returns-2
-returns-2 c = (search first-place, search (put_full, cleared))
+returns-2 c = (search first_place, search (put_full, cleared))
 
 pub put_spec : {M : Type 1} → statement M
 put_spec =

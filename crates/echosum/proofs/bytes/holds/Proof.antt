@@ -4,7 +4,7 @@ use mathlib.Core.Path.{◌≡◌}
 use Prim.Native.Nat.{◌-◌, ◌≤◌}
 use lib.ListN.{drop, length}
 use Rattle.echosum.specs.Bytes.{holds_of}
-use Rattle.echosum.proofs.Laws.Bytes.{byte-found, holds-ends, holds-goes-on}
+use Rattle.echosum.proofs.Laws.Bytes.{byte_found, holds_ends, holds_goes_on}
 use Rattle.echosum.proofs.bytes.holds.Statement.{statement}
 use Rattle.echosum.proofs.bytes.holds.Tie as tie
 
@@ -21,7 +21,7 @@ shared-slice-read-if1 : tie.Need-shared-slice-read-if1 invariant-loop decreases-
 shared-slice-read-if1 c = search rules
 
 returns : tie.Need-returns invariant-loop decreases-loop
-returns c = search byte-found
+returns c = search byte_found
 
 add-i : tie.Need-overflow-add-i invariant-loop decreases-loop
 add-i c = search rules
@@ -30,10 +30,10 @@ loop-less : tie.Need-loop-smaller invariant-loop decreases-loop
 loop-less c = search rules
 
 loop-again : tie.Need-loop-preserved invariant-loop decreases-loop
-loop-again c = (search rules, search rules, search holds-goes-on)
+loop-again c = (search rules, search rules, search holds_goes_on)
 
 returns-2 : tie.Need-returns-2 invariant-loop decreases-loop
-returns-2 c = search holds-ends
+returns-2 c = search holds_ends
 
 pub holds-spec : {M : Type 1} → statement M
 holds-spec =

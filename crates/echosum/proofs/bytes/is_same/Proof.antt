@@ -3,13 +3,13 @@ use borrow.Author.Rules.{rules}
 use mathlib.Core.Path.{◌≡◌}
 use Prim.Native.Nat.{◌-◌, ◌≤◌}
 use lib.ListN.{drop, length}
-use Rattle.echosum.specs.Bytes.{sameOf}
-use Rattle.echosum.proofs.Laws.Bytes.{byte-differs, other_length, same_ends, same-goes-on}
+use Rattle.echosum.specs.Bytes.{same_of}
+use Rattle.echosum.proofs.Laws.Bytes.{byte_differs, other_length, same_ends, same_goes_on}
 use Rattle.echosum.proofs.bytes.is_same.Statement.{statement}
 use Rattle.echosum.proofs.bytes.is_same.Tie as tie
 
 abbrev invariant-loop : tie.invariant-loop
-invariant-loop a b i₀ i-end i = (i ≤ i-end) × (i-end ≡ length a) × (length a ≡ length b) × (sameOf a b ≡ sameOf (drop i a) (drop i b))
+invariant-loop a b i₀ i-end i = (i ≤ i-end) × (i-end ≡ length a) × (length a ≡ length b) × (same_of a b ≡ same_of (drop i a) (drop i b))
 
 abbrev decreases-loop : tie.decreases-loop
 decreases-loop a b i₀ i-end i = i-end - i
@@ -27,7 +27,7 @@ shared-slice-read-if2-2 : tie.Need-shared-slice-read-if2-2 invariant-loop decrea
 shared-slice-read-if2-2 c = search rules
 
 returns-2 : tie.Need-returns-2 invariant-loop decreases-loop
-returns-2 c = search byte-differs
+returns-2 c = search byte_differs
 
 add-i : tie.Need-overflow-add-i invariant-loop decreases-loop
 add-i c = search rules
@@ -36,7 +36,7 @@ loop-less : tie.Need-loop-smaller invariant-loop decreases-loop
 loop-less c = search rules
 
 loop-again : tie.Need-loop-preserved invariant-loop decreases-loop
-loop-again c = (search rules, search rules, search rules, search same-goes-on)
+loop-again c = (search rules, search rules, search rules, search same_goes_on)
 
 returns-3 : tie.Need-returns-3 invariant-loop decreases-loop
 returns-3 c = search same_ends

@@ -3,8 +3,8 @@ use borrow.Author.Rules.{rules}
 use mathlib.Core.Path.{◌≡◌}
 use Prim.Native.Nat.{◌*◌, ◌-◌, ◌/◌, ◌≤◌}
 use lib.ListN.{drop, length, replicate, take}
-use Rattle.echosum.specs.Hexadecimal.{hexFrom, hexOf, noHex}
-use Rattle.echosum.proofs.Laws.Hexadecimal.{half-a-pair, hex-begins, hex-ends, hex-goes-on, no-high-digit, no-low-digit, too_many, zeros-go-on}
+use Rattle.echosum.specs.Hexadecimal.{hex_from, hex_of, no_hex}
+use Rattle.echosum.proofs.Laws.Hexadecimal.{half_a_pair, hex_begins, hex_ends, hex_goes_on, no_high_digit, no_low_digit, too_many, zeros_go_on}
 use Rattle.echosum.proofs.hexadecimal.hex_in.Statement.{statement}
 use Rattle.echosum.proofs.hexadecimal.hex_in.Tie as tie
 
@@ -14,9 +14,9 @@ invariant-loop text none pairs bytes₀ i₀ bytes i =
     × (pairs ≡ length text / 2)
     × (length text ≤ 128)
     × (length bytes ≡ 64)
-    × (none ≡ noHex)
+    × (none ≡ no_hex)
     × (drop i bytes ≡ drop i (replicate 64 0))
-    × (hexOf text ≡ hexFrom (take i bytes) (drop (2 * i) text))
+    × (hex_of text ≡ hex_from (take i bytes) (drop (2 * i) text))
 
 abbrev decreases-loop : tie.decreases-loop
 decreases-loop text none pairs bytes₀ i₀ bytes i = pairs - i
@@ -25,7 +25,7 @@ returns : tie.Need-returns invariant-loop decreases-loop
 returns c = search too_many
 
 loop-holds : tie.Need-loop-init invariant-loop decreases-loop
-loop-holds c = (search rules, search rules, search rules, search rules, search rules, search rules, search hex-begins)
+loop-holds c = (search rules, search rules, search rules, search rules, search rules, search rules, search hex_begins)
 
 mul-nibble : tie.Need-overflow-mul-nibble invariant-loop decreases-loop
 mul-nibble c = search rules
@@ -49,10 +49,10 @@ nibble-requires-2 : tie.Need-nibble-requires-2 invariant-loop decreases-loop
 nibble-requires-2 c κs = search rules
 
 returns-2 : tie.Need-returns-2 invariant-loop decreases-loop
-returns-2 c = search no-high-digit
+returns-2 c = search no_high_digit
 
 returns-3 : tie.Need-returns-3 invariant-loop decreases-loop
-returns-3 c = search no-low-digit
+returns-3 c = search no_low_digit
 
 mul-bytes : tie.Need-overflow-mul-bytes invariant-loop decreases-loop
 mul-bytes c = search rules
@@ -70,16 +70,16 @@ loop-less : tie.Need-loop-smaller invariant-loop decreases-loop
 loop-less c = search rules
 
 loop-again : tie.Need-loop-preserved invariant-loop decreases-loop
-loop-again c = (search rules, search rules, search rules, search rules, search rules, search zeros-go-on, search hex-goes-on)
+loop-again c = (search rules, search rules, search rules, search rules, search rules, search zeros_go_on, search hex_goes_on)
 
 mul-if4 : tie.Need-overflow-mul-if4 invariant-loop decreases-loop
 mul-if4 c = search rules
 
 returns-4 : tie.Need-returns-4 invariant-loop decreases-loop
-returns-4 c = search half-a-pair
+returns-4 c = search half_a_pair
 
 returns-5 : tie.Need-returns-5 invariant-loop decreases-loop
-returns-5 c = search hex-ends
+returns-5 c = search hex_ends
 
 pub hex-in-spec : {M : Type 1} → statement M
 hex-in-spec =

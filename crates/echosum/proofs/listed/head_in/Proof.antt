@@ -1,6 +1,6 @@
 -- `head_in` meets its contract: its tests are the definition's, one after the other. Assumes nothing.
 use borrow.Author.Rules.{rules}
-use Rattle.echosum.proofs.Laws.Listed.{head-bits, head-frame, head-good, head-mode, head-salt}
+use Rattle.echosum.proofs.Laws.Listed.{head_bits, head_frame, head_good, head_mode, head_salt}
 use Rattle.echosum.proofs.listed.head_in.Statement.{statement}
 use Rattle.echosum.proofs.listed.head_in.Tie as tie
 
@@ -11,7 +11,7 @@ no-head-requires : tie.Need-no-head-requires
 no-head-requires c κs = search rules
 
 returns : tie.Need-returns
-returns c = search head-frame
+returns c = search head_frame
 
 sub-number-in : tie.Need-overflow-sub-number-in
 sub-number-in c = search rules
@@ -32,7 +32,7 @@ no-head-requires-2 : tie.Need-no-head-requires-2
 no-head-requires-2 c κs = search rules
 
 returns-2 : tie.Need-returns-2
-returns-2 c = search head-bits
+returns-2 c = search head_bits
 
 sub-mode-in : tie.Need-overflow-sub-mode-in
 sub-mode-in c = search rules
@@ -50,7 +50,7 @@ no-head-requires-3 : tie.Need-no-head-requires-3
 no-head-requires-3 c κs = search rules
 
 returns-3 : tie.Need-returns-3
-returns-3 c = search head-mode
+returns-3 c = search head_mode
 
 sub-salt-in : tie.Need-overflow-sub-salt-in
 sub-salt-in c = search rules
@@ -68,10 +68,10 @@ no-head-requires-4 : tie.Need-no-head-requires-4
 no-head-requires-4 c κs = search rules
 
 returns-4 : tie.Need-returns-4
-returns-4 c = search head-salt
+returns-4 c = search head_salt
 
 returns-5 : tie.Need-returns-5
-returns-5 c = search head-good
+returns-5 c = search head_good
 
 pub head-in-spec : {M : Type 1} → statement M
 head-in-spec =

@@ -1,6 +1,6 @@
 -- `is_framed` meets its contract: both ends are those of the definition. Assumes nothing.
 use borrow.Author.Rules.{rules}
-use Rattle.echosum.proofs.Laws.Listed.{other-beginning, same-beginning}
+use Rattle.echosum.proofs.Laws.Listed.{other_beginning, same_beginning}
 use Rattle.echosum.proofs.listed.is_framed.Statement.{statement}
 use Rattle.echosum.proofs.listed.is_framed.Tie as tie
 
@@ -20,7 +20,7 @@ is-same-requires : tie.Need-is-same-requires
 is-same-requires c κs = search rules
 
 returns : tie.Need-returns
-returns c = search other-beginning
+returns c = search other_beginning
 
 sub-is-same-2 : tie.Need-overflow-sub-is-same-2
 sub-is-same-2 c = search rules
@@ -38,7 +38,7 @@ is-same-requires-2 : tie.Need-is-same-requires-2
 is-same-requires-2 c κs = search rules
 
 returns-2 : tie.Need-returns-2
-returns-2 c = search same-beginning
+returns-2 c = search same_beginning
 
 pub is-framed-spec : {M : Type 1} → statement M
 is-framed-spec =

@@ -1,6 +1,6 @@
 -- `plain_in` meets its contract: the digits end where they end. Assumes nothing.
 use borrow.Author.Rules.{rules}
-use Rattle.echosum.proofs.Laws.Listed.{digits-fit, digits-within, from-there}
+use Rattle.echosum.proofs.Laws.Listed.{digits_fit, digits_within, from_there}
 use Rattle.echosum.proofs.listed.plain_in.Statement.{statement}
 use Rattle.echosum.proofs.listed.plain_in.Tie as tie
 
@@ -20,13 +20,13 @@ bits-for-requires : tie.Need-bits-for-requires
 bits-for-requires c κs = search rules
 
 add-plain-to : tie.Need-overflow-add-plain-to
-add-plain-to c = search digits-fit
+add-plain-to c = search digits_fit
 
 plain-to-requires : tie.Need-plain-to-requires
-plain-to-requires c κs = (search rules, search digits-within)
+plain-to-requires c κs = (search rules, search digits_within)
 
 returns : tie.Need-returns
-returns c = search from-there
+returns c = search from_there
 
 pub plain-in-spec : {M : Type 1} → statement M
 plain-in-spec =

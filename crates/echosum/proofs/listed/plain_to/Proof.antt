@@ -1,6 +1,6 @@
 -- `plain_to` meets its contract: its tests are the definition's, one after the other. Assumes nothing.
 use borrow.Author.Rules.{rules}
-use Rattle.echosum.proofs.Laws.Listed.{plain-bits, plain-gap, plain-good, plain-name, plain-room}
+use Rattle.echosum.proofs.Laws.Listed.{plain_bits, plain_gap, plain_good, plain_name, plain_room}
 use Rattle.echosum.proofs.listed.plain_to.Statement.{statement}
 use Rattle.echosum.proofs.listed.plain_to.Tie as tie
 
@@ -8,7 +8,7 @@ nothing-requires : tie.Need-nothing-requires
 nothing-requires c κs = search rules
 
 returns : tie.Need-returns
-returns c = search plain-bits
+returns c = search plain_bits
 
 sub-if2 : tie.Need-overflow-sub-if2
 sub-if2 c = search rules
@@ -17,7 +17,7 @@ nothing-requires-2 : tie.Need-nothing-requires-2
 nothing-requires-2 c κs = search rules
 
 returns-2 : tie.Need-returns-2
-returns-2 c = search plain-room
+returns-2 c = search plain_room
 
 shared-slice-read-is-gap : tie.Need-shared-slice-read-is-gap
 shared-slice-read-is-gap c = search rules
@@ -35,7 +35,7 @@ nothing-requires-3 : tie.Need-nothing-requires-3
 nothing-requires-3 c κs = search rules
 
 returns-3 : tie.Need-returns-3
-returns-3 c = search plain-gap
+returns-3 c = search plain_gap
 
 add-from : tie.Need-overflow-add-from
 add-from c = search rules
@@ -56,7 +56,7 @@ nothing-requires-4 : tie.Need-nothing-requires-4
 nothing-requires-4 c κs = search rules
 
 returns-4 : tie.Need-returns-4
-returns-4 c = search plain-name
+returns-4 c = search plain_name
 
 sub-hex-in : tie.Need-overflow-sub-hex-in
 sub-hex-in c = search rules
@@ -71,7 +71,7 @@ hex-in-requires : tie.Need-hex-in-requires
 hex-in-requires c κs = search rules
 
 returns-5 : tie.Need-returns-5
-returns-5 c = search plain-good
+returns-5 c = search plain_good
 
 pub plain-to-spec : {M : Type 1} → statement M
 plain-to-spec =

@@ -1,6 +1,6 @@
 -- `tagged_in` meets its contract: its tests are the definition's, one after the other. Assumes nothing.
 use borrow.Author.Rules.{rules}
-use Rattle.echosum.proofs.Laws.Listed.{tagged-closes, tagged-digits, tagged-good, tagged-head, tagged-hex, tagged-name, tagged-room}
+use Rattle.echosum.proofs.Laws.Listed.{tagged_closes, tagged_digits, tagged_good, tagged_head, tagged_hex, tagged_name, tagged_room}
 use Rattle.echosum.proofs.listed.tagged_in.Statement.{statement}
 use Rattle.echosum.proofs.listed.tagged_in.Tie as tie
 
@@ -11,7 +11,7 @@ nothing-requires : tie.Need-nothing-requires
 nothing-requires c κs = search rules
 
 returns : tie.Need-returns
-returns c = search tagged-room
+returns c = search tagged_room
 
 add-from : tie.Need-overflow-add-from
 add-from c = search rules
@@ -32,7 +32,7 @@ nothing-requires-2 : tie.Need-nothing-requires-2
 nothing-requires-2 c κs = search rules
 
 returns-2 : tie.Need-returns-2
-returns-2 c = search tagged-head
+returns-2 c = search tagged_head
 
 sub-if3 : tie.Need-overflow-sub-if3
 sub-if3 c = search rules
@@ -44,7 +44,7 @@ nothing-requires-3 : tie.Need-nothing-requires-3
 nothing-requires-3 c κs = search rules
 
 returns-3 : tie.Need-returns-3
-returns-3 c = search tagged-digits
+returns-3 c = search tagged_digits
 
 sub-begin : tie.Need-overflow-sub-begin
 sub-begin c = search rules
@@ -71,7 +71,7 @@ nothing-requires-4 : tie.Need-nothing-requires-4
 nothing-requires-4 c κs = search rules
 
 returns-4 : tie.Need-returns-4
-returns-4 c = search tagged-closes
+returns-4 c = search tagged_closes
 
 sub-is-name : tie.Need-overflow-sub-is-name
 sub-is-name c = search rules
@@ -89,7 +89,7 @@ nothing-requires-5 : tie.Need-nothing-requires-5
 nothing-requires-5 c κs = search rules
 
 returns-5 : tie.Need-returns-5
-returns-5 c = search tagged-name
+returns-5 c = search tagged_name
 
 sub-hex-in : tie.Need-overflow-sub-hex-in
 sub-hex-in c = search rules
@@ -107,10 +107,10 @@ nothing-requires-6 : tie.Need-nothing-requires-6
 nothing-requires-6 c κs = search rules
 
 returns-6 : tie.Need-returns-6
-returns-6 c = search tagged-hex
+returns-6 c = search tagged_hex
 
 returns-7 : tie.Need-returns-7
-returns-7 c = search tagged-good
+returns-7 c = search tagged_good
 
 pub tagged-in-spec : {M : Type 1} → statement M
 tagged-in-spec =

@@ -5,9 +5,9 @@ use mathlib.Core.Bool.{false}
 use Prim.Native.Nat.{◌-◌, ◌≤◌}
 use lib.ListN.{length, take}
 use Rattle.lines.specs.Lines.{Put}
-use Rattle.lines.proofs.Promises.{put-length}
+use Rattle.lines.proofs.Promises.{put_length}
 use Rattle.echosum.specs.Names.{unescaped}
-use Rattle.echosum.proofs.Laws.Names.{closed-at-first, openedAfter, opened-next, undone-all, undone-next, undone-none}
+use Rattle.echosum.proofs.Laws.Names.{closed_at_first, opened_after, opened_next, undone_all, undone_next, undone_none}
 use Rattle.echosum.proofs.names.put_unescaped.Statement.{statement}
 use Rattle.echosum.proofs.names.put_unescaped.Tie as tie
 
@@ -15,14 +15,14 @@ abbrev invariant-loop : tie.invariant-loop
 invariant-loop room₀ text end₀ is-open₀ i₀ i-end room end is_open i =
     (i ≤ i-end)
     × (i-end ≡ length text)
-    × (is_open ≡ openedAfter false (take i text))
+    × (is_open ≡ opened_after false (take i text))
     × Put room₀ 0 (unescaped (take i text)) room end
 
 abbrev decreases-loop : tie.decreases-loop
 decreases-loop room₀ text end₀ is-open₀ i₀ i-end room end is_open i = i-end - i
 
 loop-holds : tie.Need-loop-init invariant-loop decreases-loop
-loop-holds c = (search rules, search rules, search closed-at-first, search undone-none)
+loop-holds c = (search rules, search rules, search closed_at_first, search undone_none)
 
 shared-slice-read-byte : tie.Need-shared-slice-read-byte invariant-loop decreases-loop
 shared-slice-read-byte c = search rules
@@ -40,13 +40,13 @@ loop-less : tie.Need-loop-smaller invariant-loop decreases-loop
 loop-less c = search rules
 
 loop-again : tie.Need-loop-preserved invariant-loop decreases-loop
-loop-again c = (search rules, search rules, search opened-next, search undone-next)
+loop-again c = (search rules, search rules, search opened_next, search undone_next)
 
 same_length : tie.Need-same-length invariant-loop decreases-loop
-same_length c = search put-length
+same_length c = search put_length
 
 returns : tie.Need-returns invariant-loop decreases-loop
-returns c = search undone-all
+returns c = search undone_all
 
 pub put-unescaped-spec : {M : Type 1} → statement M
 put-unescaped-spec =

@@ -1,6 +1,6 @@
 -- `put_as_is` meets its contract: three texts, one behind the other. Assumes nothing.
 use borrow.Author.Rules.{rules}
-use Rattle.echosum.proofs.Laws.Style.{three-put}
+use Rattle.echosum.proofs.Laws.Style.{three_put}
 use Rattle.echosum.proofs.style.put_as_is.Statement.{statement}
 use Rattle.echosum.proofs.style.put_as_is.Tie as tie
 
@@ -17,7 +17,7 @@ same_length : tie.Need-same-length
 same_length c = search rules
 
 returns : tie.Need-returns
-returns c = search three-put
+returns c = search three_put
 
 pub put-as-is-spec : {M : Type 1} → statement M
 put-as-is-spec =

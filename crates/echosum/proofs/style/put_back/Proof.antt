@@ -1,6 +1,6 @@
 -- `put_back` meets its contract, with a tag and without. Assumes nothing.
 use borrow.Author.Rules.{rules}
-use Rattle.echosum.proofs.Laws.Style.{plain_back, tagged-back}
+use Rattle.echosum.proofs.Laws.Style.{plain_back, tagged_back}
 use Rattle.echosum.proofs.style.put_back.Statement.{statement}
 use Rattle.echosum.proofs.style.put_back.Tie as tie
 
@@ -20,7 +20,7 @@ same_length : tie.Need-same-length
 same_length c = search rules
 
 returns : tie.Need-returns
-returns c = search tagged-back
+returns c = search tagged_back
 
 put-end-requires-2 : tie.Need-put-end-requires-2
 put-end-requires-2 c κs = search rules

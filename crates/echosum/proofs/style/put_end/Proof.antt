@@ -1,6 +1,6 @@
 -- `put_end` meets its contract, for a zero byte and a line end. Assumes nothing.
 use borrow.Author.Rules.{rules}
-use Rattle.echosum.proofs.Laws.Style.{end-put, zero-put}
+use Rattle.echosum.proofs.Laws.Style.{end_put, zero_put}
 use Rattle.echosum.proofs.style.put_end.Statement.{statement}
 use Rattle.echosum.proofs.style.put_end.Tie as tie
 
@@ -14,7 +14,7 @@ same_length : tie.Need-same-length
 same_length c = search rules
 
 returns : tie.Need-returns
-returns c = search zero-put
+returns c = search zero_put
 
 slice-aggregate-put-2 : tie.Need-slice-aggregate-put-2
 slice-aggregate-put-2 c = search rules
@@ -26,7 +26,7 @@ same-length-2 : tie.Need-same-length-2
 same-length-2 c = search rules
 
 returns-2 : tie.Need-returns-2
-returns-2 c = search end-put
+returns-2 c = search end_put
 
 pub put-end-spec : {M : Type 1} → statement M
 put-end-spec =

@@ -1,6 +1,6 @@
 -- `put_front` meets its contract, with a tag and without. Assumes nothing.
 use borrow.Author.Rules.{rules}
-use Rattle.echosum.proofs.Laws.Style.{plain-front, tagged-front}
+use Rattle.echosum.proofs.Laws.Style.{plain_front, tagged_front}
 use Rattle.echosum.proofs.style.put_front.Statement.{statement}
 use Rattle.echosum.proofs.style.put_front.Tie as tie
 
@@ -11,7 +11,7 @@ same_length : tie.Need-same-length
 same_length c = search rules
 
 returns : tie.Need-returns
-returns c = search tagged-front
+returns c = search tagged_front
 
 put-hex-requires : tie.Need-put-hex-requires
 put-hex-requires c κs = search rules
@@ -26,7 +26,7 @@ same-length-2 : tie.Need-same-length-2
 same-length-2 c = search rules
 
 returns-2 : tie.Need-returns-2
-returns-2 c = search plain-front
+returns-2 c = search plain_front
 
 pub put-front-spec : {M : Type 1} → statement M
 put-front-spec =

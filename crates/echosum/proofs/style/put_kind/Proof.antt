@@ -1,6 +1,6 @@
 -- `put_kind` meets its contract: three texts, one behind the other. Assumes nothing.
 use borrow.Author.Rules.{rules}
-use Rattle.echosum.proofs.Laws.Style.{kind-put}
+use Rattle.echosum.proofs.Laws.Style.{kind_put}
 use Rattle.echosum.proofs.style.put_kind.Statement.{statement}
 use Rattle.echosum.proofs.style.put_kind.Tie as tie
 
@@ -20,7 +20,7 @@ same_length : tie.Need-same-length
 same_length c = search rules
 
 returns : tie.Need-returns
-returns c = search kind-put
+returns c = search kind_put
 
 pub put-kind-spec : {M : Type 1} → statement M
 put-kind-spec =

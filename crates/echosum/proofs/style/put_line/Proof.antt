@@ -1,6 +1,6 @@
 -- `put_line` meets its contract: what stands around the name fits its rooms, and the name is put between. Assumes nothing.
 use borrow.Author.Rules.{rules}
-use Rattle.echosum.proofs.Laws.Style.{line-as-it-is, line-named}
+use Rattle.echosum.proofs.Laws.Style.{line_as_it_is, line_named}
 use Rattle.echosum.proofs.style.put_line.Statement.{statement}
 use Rattle.echosum.proofs.style.put_line.Tie as tie
 
@@ -41,7 +41,7 @@ same_length : tie.Need-same-length
 same_length c = search rules
 
 returns : tie.Need-returns
-returns c = (search rules, λ d s. search line-as-it-is)
+returns c = (search rules, λ d s. search line_as_it_is)
 
 sub-put-named : tie.Need-overflow-sub-put-named
 sub-put-named c = search rules
@@ -68,7 +68,7 @@ same-length-2 : tie.Need-same-length-2
 same-length-2 c = search rules
 
 returns-2 : tie.Need-returns-2
-returns-2 c = (search rules, λ d s. search line-named)
+returns-2 c = (search rules, λ d s. search line_named)
 
 pub put-line-spec : {M : Type 1} → statement M
 put-line-spec =

@@ -1,6 +1,6 @@
 -- `put_mode` meets its contract, for either mode. Assumes nothing.
 use borrow.Author.Rules.{rules}
-use Rattle.echosum.proofs.Laws.Style.{double-put, single-put}
+use Rattle.echosum.proofs.Laws.Style.{double_put, single_put}
 use Rattle.echosum.proofs.style.put_mode.Statement.{statement}
 use Rattle.echosum.proofs.style.put_mode.Tie as tie
 
@@ -14,7 +14,7 @@ same_length : tie.Need-same-length
 same_length c = search rules
 
 returns : tie.Need-returns
-returns c = search single-put
+returns c = search single_put
 
 slice-aggregate-put-2 : tie.Need-slice-aggregate-put-2
 slice-aggregate-put-2 c = search rules
@@ -26,7 +26,7 @@ same-length-2 : tie.Need-same-length-2
 same-length-2 c = search rules
 
 returns-2 : tie.Need-returns-2
-returns-2 c = search double-put
+returns-2 c = search double_put
 
 pub put-mode-spec : {M : Type 1} → statement M
 put-mode-spec =

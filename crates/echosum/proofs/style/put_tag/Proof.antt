@@ -1,6 +1,6 @@
 -- `put_tag` meets its contract: three texts, one behind the other. Assumes nothing.
 use borrow.Author.Rules.{rules}
-use Rattle.echosum.proofs.Laws.Style.{tag-put}
+use Rattle.echosum.proofs.Laws.Style.{tag_put}
 use Rattle.echosum.proofs.style.put_tag.Statement.{statement}
 use Rattle.echosum.proofs.style.put_tag.Tie as tie
 
@@ -23,7 +23,7 @@ same_length : tie.Need-same-length
 same_length c = search rules
 
 returns : tie.Need-returns
-returns c = search tag-put
+returns c = search tag_put
 
 pub put-tag-spec : {M : Type 1} → statement M
 put-tag-spec =

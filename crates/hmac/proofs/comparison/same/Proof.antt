@@ -3,12 +3,12 @@ use mathlib.Core.Path.{◌≡◌}
 use Prim.Native.Nat.{◌-◌, ◌≤◌}
 use lib.ListN.{length}
 use borrow.Author.Rules.{rules}
-use Rattle.hmac.proofs.Laws.Same.{differingBits, more-bits, no_bits, other_length, same-by-bits}
+use Rattle.hmac.proofs.Laws.Same.{differing_bits, more_bits, no_bits, other_length, same_by_bits}
 use Rattle.hmac.proofs.comparison.same.Statement.{statement}
 use Rattle.hmac.proofs.comparison.same.Tie as tie
 
 abbrev invariant-loop : tie.invariant-loop
-invariant-loop a b n differing₀ i₀ differing i = (i ≤ n) × (n ≡ length a) × (length b ≡ n) × (differing ≡ differingBits a b i)
+invariant-loop a b n differing₀ i₀ differing i = (i ≤ n) × (n ≡ length a) × (length b ≡ n) × (differing ≡ differing_bits a b i)
 
 abbrev decreases-loop : tie.decreases-loop
 decreases-loop a b n differing₀ i₀ differing i = n - i
@@ -32,10 +32,10 @@ loop-less : tie.Need-loop-smaller invariant-loop decreases-loop
 loop-less c = search rules
 
 loop-again : tie.Need-loop-preserved invariant-loop decreases-loop
-loop-again c = (search rules, search rules, search rules, search more-bits)
+loop-again c = (search rules, search rules, search rules, search more_bits)
 
 returns-2 : tie.Need-returns-2 invariant-loop decreases-loop
-returns-2 c = search same-by-bits
+returns-2 c = search same_by_bits
 
 pub same_spec : {M : Type 1} → statement M
 same_spec =

@@ -5,7 +5,7 @@ use native.Mathlib.Omega.{arith}
 use lib.ListN.{get_or, length, replicate}
 use borrow.Author.Rules.{rules}
 use Rattle.aes_round.proofs.Promises.{Filled, fill_none}
-use Rattle.hmac.proofs.Laws.KeyBlock.{copied-block, copied-number, copy_more, digested-block, digested-number, key-within}
+use Rattle.hmac.proofs.Laws.KeyBlock.{copied_block, copied_number, copy_more, digested_block, digested_number, key_within}
 use Rattle.hmac.proofs.key_block.key_block.Statement.{statement}
 use Rattle.hmac.proofs.key_block.key_block.Tie as tie
 
@@ -25,10 +25,10 @@ digest-requires : tie.Need-digest-requires invariant-loop decreases-loop
 digest-requires c κs = search rules
 
 returns : tie.Need-returns invariant-loop decreases-loop
-returns c = (search digested-number, search digested-block)
+returns c = (search digested_number, search digested_block)
 
 loop-holds : tie.Need-loop-init invariant-loop decreases-loop
-loop-holds c = (search rules, search rules, search key-within, fill_none _ _ _ refl)
+loop-holds c = (search rules, search rules, search key_within, fill_none _ _ _ refl)
 
 shared-slice-read-block : tie.Need-shared-slice-read-block invariant-loop decreases-loop
 shared-slice-read-block c = search rules
@@ -46,7 +46,7 @@ loop-again : tie.Need-loop-preserved invariant-loop decreases-loop
 loop-again c = (search rules, search rules, search rules, search copy_more)
 
 returns-2 : tie.Need-returns-2 invariant-loop decreases-loop
-returns-2 c = (search copied-number, search copied-block)
+returns-2 c = (search copied_number, search copied_block)
 
 pub key-block-spec : {M : Type 1} → statement M
 key-block-spec =

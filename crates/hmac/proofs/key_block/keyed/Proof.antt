@@ -6,7 +6,7 @@ use lib.ListN.{get_or, replicate}
 use borrow.Author.Rules.{rules}
 use Rattle.aes_round.specs.Bytes.{xor}
 use Rattle.aes_round.proofs.Promises.{Filled, fill_none}
-use Rattle.hmac.proofs.Laws.KeyBlock.{front-count, keyed-session, pad-more, size-within}
+use Rattle.hmac.proofs.Laws.KeyBlock.{front_count, keyed_session, pad_more, size_within}
 use Rattle.hmac.proofs.key_block.keyed.Statement.{statement}
 use Rattle.hmac.proofs.key_block.keyed.Tie as tie
 
@@ -20,7 +20,7 @@ block-size-requires : tie.Need-block-size-requires invariant-loop decreases-loop
 block-size-requires c κs = search rules
 
 loop-holds : tie.Need-loop-init invariant-loop decreases-loop
-loop-holds c = (search rules, search size-within, fill_none _ _ _ refl)
+loop-holds c = (search rules, search size_within, fill_none _ _ _ refl)
 
 array-read-padded : tie.Need-array-read-padded invariant-loop decreases-loop
 array-read-padded c = search rules
@@ -35,19 +35,19 @@ loop-less : tie.Need-loop-smaller invariant-loop decreases-loop
 loop-less c = search rules
 
 loop-again : tie.Need-loop-preserved invariant-loop decreases-loop
-loop-again c = (search rules, search rules, search pad-more)
+loop-again c = (search rules, search rules, search pad_more)
 
 array-share-prefix-padded : tie.Need-array-share-prefix-padded invariant-loop decreases-loop
 array-share-prefix-padded c = omega arith
 
 slice-aggregate-add : tie.Need-slice-aggregate-add invariant-loop decreases-loop
-slice-aggregate-add c = search front-count
+slice-aggregate-add c = search front_count
 
 add-requires : tie.Need-add-requires invariant-loop decreases-loop
 add-requires c κs = search rules
 
 returns : tie.Need-returns invariant-loop decreases-loop
-returns c = search keyed-session
+returns c = search keyed_session
 
 pub keyed-spec : {M : Type 1} → statement M
 keyed-spec =

@@ -4,7 +4,7 @@ use Prim.Native.Nat.{◌-◌, ◌≤◌}
 use lib.ListN.{length, take}
 use borrow.Author.Rules.{rules}
 use Rattle.lines.specs.Lines.{Put}
-use Rattle.lines.proofs.Laws.Lines.{bytes-all, bytes_next, put-length, put-nothing}
+use Rattle.lines.proofs.Laws.Lines.{bytes_all, bytes_next, put_length, put_nothing}
 use Rattle.lines.proofs.bytes.put.Statement.{statement}
 use Rattle.lines.proofs.bytes.put.Tie as tie
 
@@ -18,7 +18,7 @@ start-requires : tie.Need-start-requires invariant-loop decreases-loop
 start-requires c κs = search rules
 
 loop-holds : tie.Need-loop-init invariant-loop decreases-loop
-loop-holds c = (search rules, search rules, search put-nothing)
+loop-holds c = (search rules, search rules, search put_nothing)
 
 shared-slice-read-put-byte : tie.Need-shared-slice-read-put-byte invariant-loop decreases-loop
 shared-slice-read-put-byte c = search rules
@@ -36,10 +36,10 @@ loop-again : tie.Need-loop-preserved invariant-loop decreases-loop
 loop-again c = (search rules, search rules, search bytes_next)
 
 same_length : tie.Need-same-length invariant-loop decreases-loop
-same_length c = search put-length
+same_length c = search put_length
 
 returns : tie.Need-returns invariant-loop decreases-loop
-returns c = search bytes-all
+returns c = search bytes_all
 
 pub put_spec : {M : Type 1} → statement M
 put_spec =

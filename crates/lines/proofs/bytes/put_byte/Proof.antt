@@ -1,6 +1,6 @@
 -- `put_byte` meets its contract, where there is a place for the byte and where there is none. Assumes nothing.
 use borrow.Author.Rules.{rules}
-use Rattle.lines.proofs.Laws.Lines.{put_one, put-one-out}
+use Rattle.lines.proofs.Laws.Lines.{put_one, put_one_out}
 use Rattle.lines.proofs.bytes.put_byte.Statement.{statement}
 use Rattle.lines.proofs.bytes.put_byte.Tie as tie
 
@@ -17,7 +17,7 @@ returns : tie.Need-returns
 returns c = search put_one
 
 returns-2 : tie.Need-returns-2
-returns-2 c = search put-one-out
+returns-2 c = search put_one_out
 
 pub put-byte-spec : {M : Type 1} → statement M
 put-byte-spec = tie.close (tie.spec slice-write-room add-result same_length returns returns-2)

@@ -4,15 +4,15 @@ use mathlib.Core.List.{◌++◌}
 use Prim.Native.Nat.{◌<◌, ◌≤◌, ◌^◌}
 use lib.ListN.{drop, length}
 use borrow.Author.Rules.{rules}
-use Rattle.lines.specs.Decimal.{decimalOf, significant}
-use Rattle.lines.proofs.Laws.Decimal.{all_found, first_found, first_rest, more-to-find, next-found, next-rest}
-use Rattle.lines.proofs.Laws.Lines.{put-length}
+use Rattle.lines.specs.Decimal.{decimal_of, significant}
+use Rattle.lines.proofs.Laws.Decimal.{all_found, first_found, first_rest, more_to_find, next_found, next_rest}
+use Rattle.lines.proofs.Laws.Lines.{put_length}
 use Rattle.lines.proofs.decimal.put_decimal.Statement.{statement}
 use Rattle.lines.proofs.decimal.put_decimal.Tie as tie
 
 abbrev invariant-loop : tie.invariant-loop
 invariant-loop room at number digits₀ from₀ rest₀ digits from rest =
-    (from ≤ 19) × (length digits ≡ 20) × (rest < 10 ^ from) × (decimalOf number ≡ significant from rest ++ drop from digits)
+    (from ≤ 19) × (length digits ≡ 20) × (rest < 10 ^ from) × (decimal_of number ≡ significant from rest ++ drop from digits)
 
 abbrev decreases-loop : tie.decreases-loop
 decreases-loop room at number digits₀ from₀ rest₀ digits from rest = rest
@@ -27,7 +27,7 @@ loop-holds : tie.Need-loop-init invariant-loop decreases-loop
 loop-holds c = (search rules, search rules, search first_rest, search first_found)
 
 sub-from : tie.Need-overflow-sub-from invariant-loop decreases-loop
-sub-from c = search more-to-find
+sub-from c = search more_to_find
 
 last-digit-requires-2 : tie.Need-last-digit-requires-2 invariant-loop decreases-loop
 last-digit-requires-2 c κs = search rules
@@ -39,7 +39,7 @@ loop-less : tie.Need-loop-smaller invariant-loop decreases-loop
 loop-less c = search rules
 
 loop-again : tie.Need-loop-preserved invariant-loop decreases-loop
-loop-again c = (search rules, search rules, search next-rest, search next-found)
+loop-again c = (search rules, search rules, search next_rest, search next_found)
 
 sub-put : tie.Need-overflow-sub-put invariant-loop decreases-loop
 sub-put c = search rules
@@ -54,7 +54,7 @@ put-requires : tie.Need-put-requires invariant-loop decreases-loop
 put-requires c κs = search rules
 
 same_length : tie.Need-same-length invariant-loop decreases-loop
-same_length c = search put-length
+same_length c = search put_length
 
 returns : tie.Need-returns invariant-loop decreases-loop
 returns c = search all_found

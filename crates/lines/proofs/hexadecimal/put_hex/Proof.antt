@@ -3,15 +3,15 @@ use mathlib.Core.Path.{◌≡◌}
 use Prim.Native.Nat.{◌-◌, ◌≤◌}
 use lib.ListN.{length, take}
 use borrow.Author.Rules.{rules}
-use Rattle.lines.specs.Hexadecimal.{digitsOf}
+use Rattle.lines.specs.Hexadecimal.{digits_of}
 use Rattle.lines.specs.Lines.{Put, spread}
-use Rattle.lines.proofs.Laws.Hexadecimal.{digits-next}
-use Rattle.lines.proofs.Laws.Lines.{put-length, spread-all, spread_none}
+use Rattle.lines.proofs.Laws.Hexadecimal.{digits_next}
+use Rattle.lines.proofs.Laws.Lines.{put_length, spread_all, spread_none}
 use Rattle.lines.proofs.hexadecimal.put_hex.Statement.{statement}
 use Rattle.lines.proofs.hexadecimal.put_hex.Tie as tie
 
 abbrev invariant-loop : tie.invariant-loop
-invariant-loop room₀ at bytes end₀ i₀ i-end room end i = (i ≤ i-end) × (i-end ≡ length bytes) × Put room₀ at (spread digitsOf (take i bytes)) room end
+invariant-loop room₀ at bytes end₀ i₀ i-end room end i = (i ≤ i-end) × (i-end ≡ length bytes) × Put room₀ at (spread digits_of (take i bytes)) room end
 
 abbrev decreases-loop : tie.decreases-loop
 decreases-loop room₀ at bytes end₀ i₀ i-end room end i = i-end - i
@@ -44,13 +44,13 @@ loop-less : tie.Need-loop-smaller invariant-loop decreases-loop
 loop-less c = search rules
 
 loop-again : tie.Need-loop-preserved invariant-loop decreases-loop
-loop-again c = (search rules, search rules, search digits-next)
+loop-again c = (search rules, search rules, search digits_next)
 
 same_length : tie.Need-same-length invariant-loop decreases-loop
-same_length c = search put-length
+same_length c = search put_length
 
 returns : tie.Need-returns invariant-loop decreases-loop
-returns c = search spread-all
+returns c = search spread_all
 
 pub put-hex-spec : {M : Type 1} → statement M
 put-hex-spec =

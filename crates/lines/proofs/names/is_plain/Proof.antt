@@ -4,7 +4,7 @@ use Prim.Native.Nat.{◌-◌, ◌≤◌}
 use lib.ListN.{drop, length}
 use borrow.Author.Rules.{rules}
 use Rattle.lines.specs.Names.{is_plain}
-use Rattle.lines.proofs.Laws.Names.{not_plain, plain, plain-on}
+use Rattle.lines.proofs.Laws.Names.{not_plain, plain, plain_on}
 use Rattle.lines.proofs.names.is_plain.Statement.{statement}
 use Rattle.lines.proofs.names.is_plain.Tie as tie
 
@@ -33,7 +33,7 @@ loop-less : tie.Need-loop-smaller invariant-loop decreases-loop
 loop-less c = search rules
 
 loop-again : tie.Need-loop-preserved invariant-loop decreases-loop
-loop-again c = (search rules, search rules, search plain-on)
+loop-again c = (search rules, search rules, search plain_on)
 
 returns-2 : tie.Need-returns-2 invariant-loop decreases-loop
 returns-2 c = search plain

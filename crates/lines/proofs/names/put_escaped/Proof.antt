@@ -1,6 +1,6 @@
 -- `put_escaped` meets its contract, for a byte that is escaped and for one that is not. Assumes nothing.
 use borrow.Author.Rules.{rules}
-use Rattle.lines.proofs.Laws.Names.{as-it-is, escaped}
+use Rattle.lines.proofs.Laws.Names.{as_it_is, escaped}
 use Rattle.lines.proofs.names.put_escaped.Statement.{statement}
 use Rattle.lines.proofs.names.put_escaped.Tie as tie
 
@@ -14,7 +14,7 @@ same_length : tie.Need-same-length
 same_length c = search rules
 
 returns : tie.Need-returns
-returns c = search as-it-is
+returns c = search as_it_is
 
 put-byte-requires-2 : tie.Need-put-byte-requires-2
 put-byte-requires-2 c κs = search rules

@@ -4,13 +4,13 @@ use Prim.Native.Nat.{◌-◌, ◌≤◌}
 use lib.ListN.{length, take}
 use borrow.Author.Rules.{rules}
 use Rattle.lines.specs.Lines.{Put, spread}
-use Rattle.lines.specs.Names.{escapeOf}
-use Rattle.lines.proofs.Laws.Lines.{put-length, spread-all, spread-next, spread_none}
+use Rattle.lines.specs.Names.{escape_of}
+use Rattle.lines.proofs.Laws.Lines.{put_length, spread_all, spread_next, spread_none}
 use Rattle.lines.proofs.names.put_name.Statement.{statement}
 use Rattle.lines.proofs.names.put_name.Tie as tie
 
 abbrev invariant-loop : tie.invariant-loop
-invariant-loop room₀ at name end₀ i₀ i-end room end i = (i ≤ i-end) × (i-end ≡ length name) × Put room₀ at (spread escapeOf (take i name)) room end
+invariant-loop room₀ at name end₀ i₀ i-end room end i = (i ≤ i-end) × (i-end ≡ length name) × Put room₀ at (spread escape_of (take i name)) room end
 
 abbrev decreases-loop : tie.decreases-loop
 decreases-loop room₀ at name end₀ i₀ i-end room end i = i-end - i
@@ -34,13 +34,13 @@ loop-less : tie.Need-loop-smaller invariant-loop decreases-loop
 loop-less c = search rules
 
 loop-again : tie.Need-loop-preserved invariant-loop decreases-loop
-loop-again c = (search rules, search rules, search spread-next)
+loop-again c = (search rules, search rules, search spread_next)
 
 same_length : tie.Need-same-length invariant-loop decreases-loop
-same_length c = search put-length
+same_length c = search put_length
 
 returns : tie.Need-returns invariant-loop decreases-loop
-returns c = search spread-all
+returns c = search spread_all
 
 pub put-name-spec : {M : Type 1} → statement M
 put-name-spec =

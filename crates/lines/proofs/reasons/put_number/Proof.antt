@@ -1,6 +1,6 @@
 -- `put_number` meets its contract, a number at a time. Assumes nothing.
 use borrow.Author.Rules.{rules}
-use Rattle.lines.specs.Reasons.{bytes_of, reasonOf}
+use Rattle.lines.specs.Reasons.{bytes_of, reason_of}
 use Rattle.lines.proofs.Laws.Reasons.{known, unknown}
 use Rattle.lines.proofs.reasons.put_number.Statement.{statement}
 use Rattle.lines.proofs.reasons.put_number.Tie as tie
@@ -15,7 +15,7 @@ same_length : tie.Need-same-length
 same_length c = search rules
 
 returns : tie.Need-returns
-unfolding bytes_of reasonOf
+unfolding bytes_of reason_of
 returns c = search (known 2)
 
 slice-aggregate-put-2 : tie.Need-slice-aggregate-put-2
@@ -28,7 +28,7 @@ same-length-2 : tie.Need-same-length-2
 same-length-2 c = search rules
 
 returns-2 : tie.Need-returns-2
-unfolding bytes_of reasonOf
+unfolding bytes_of reason_of
 returns-2 c = search (known 5)
 
 slice-aggregate-put-3 : tie.Need-slice-aggregate-put-3
@@ -41,7 +41,7 @@ same-length-3 : tie.Need-same-length-3
 same-length-3 c = search rules
 
 returns-3 : tie.Need-returns-3
-unfolding bytes_of reasonOf
+unfolding bytes_of reason_of
 returns-3 c = search (known 9)
 
 slice-aggregate-put-4 : tie.Need-slice-aggregate-put-4
@@ -54,7 +54,7 @@ same-length-4 : tie.Need-same-length-4
 same-length-4 c = search rules
 
 returns-4 : tie.Need-returns-4
-unfolding bytes_of reasonOf
+unfolding bytes_of reason_of
 returns-4 c = search (known 13)
 
 slice-aggregate-put-5 : tie.Need-slice-aggregate-put-5
@@ -67,7 +67,7 @@ same-length-5 : tie.Need-same-length-5
 same-length-5 c = search rules
 
 returns-5 : tie.Need-returns-5
-unfolding bytes_of reasonOf
+unfolding bytes_of reason_of
 returns-5 c = search (known 20)
 
 slice-aggregate-put-6 : tie.Need-slice-aggregate-put-6
@@ -80,7 +80,7 @@ same-length-6 : tie.Need-same-length-6
 same-length-6 c = search rules
 
 returns-6 : tie.Need-returns-6
-unfolding bytes_of reasonOf
+unfolding bytes_of reason_of
 returns-6 c = search (known 21)
 
 slice-aggregate-put-7 : tie.Need-slice-aggregate-put-7
@@ -93,7 +93,7 @@ same-length-7 : tie.Need-same-length-7
 same-length-7 c = search rules
 
 returns-7 : tie.Need-returns-7
-unfolding bytes_of reasonOf
+unfolding bytes_of reason_of
 returns-7 c = search (known 28)
 
 slice-aggregate-put-8 : tie.Need-slice-aggregate-put-8
@@ -106,7 +106,7 @@ same-length-8 : tie.Need-same-length-8
 same-length-8 c = search rules
 
 returns-8 : tie.Need-returns-8
-unfolding bytes_of reasonOf
+unfolding bytes_of reason_of
 returns-8 c = search (known 36)
 
 slice-aggregate-put-9 : tie.Need-slice-aggregate-put-9

@@ -2,7 +2,7 @@
 use Prim.Native.Nat.{◌-◌, ◌≤◌}
 use lib.ListN.{length}
 use borrow.Author.Rules.{rules}
-use Rattle.list_table.proofs.Laws.Records.{goes_on, in_table, less-left}
+use Rattle.list_table.proofs.Laws.Records.{goes_on, in_table, less_left}
 use Rattle.list_table.proofs.listing.print_records.Statement.{statement}
 use Rattle.list_table.proofs.listing.print_records.Tie as tie
 
@@ -28,7 +28,7 @@ returns : tie.Need-returns invariant-loop decreases-loop
 returns c = search rules
 
 loop-less : tie.Need-loop-smaller invariant-loop decreases-loop
-loop-less c = search less-left
+loop-less c = search less_left
 
 loop-again : tie.Need-loop-preserved invariant-loop decreases-loop
 loop-again c = search in_table

@@ -3,8 +3,8 @@ use Prim.Native.Nat.{◌-◌}
 use native.Mathlib.Omega.{arith}
 use lib.ListN.{length}
 use borrow.Author.Rules.{rules}
-use Rattle.steering.proofs.Laws.Parsing.{Counting, count-end, count_next, count-start, count-stop}
-use Rattle.steering.proofs.Laws.Reading.{less-left}
+use Rattle.steering.proofs.Laws.Parsing.{Counting, count_end, count_next, count_start, count_stop}
+use Rattle.steering.proofs.Laws.Reading.{less_left}
 use Rattle.steering.proofs.counting.count.Statement.{statement}
 use Rattle.steering.proofs.counting.count.Tie as tie
 
@@ -15,7 +15,7 @@ abbrev decreases-loop : tie.decreases-loop
 decreases-loop table at₀ records₀ at records = length table - at
 
 loop-holds : tie.Need-loop-init invariant-loop decreases-loop
-loop-holds c = search count-start
+loop-holds c = search count_start
 
 read-at-requires : tie.Need-read-at-requires invariant-loop decreases-loop
 read-at-requires c κs = search rules
@@ -27,7 +27,7 @@ add-records : tie.Need-overflow-add-records invariant-loop decreases-loop
 add-records c = omega arith
 
 loop-less : tie.Need-loop-smaller invariant-loop decreases-loop
-loop-less c = search less-left
+loop-less c = search less_left
 
 loop-again : tie.Need-loop-preserved invariant-loop decreases-loop
 loop-again c = search count_next
@@ -36,13 +36,13 @@ enum_told : tie.Need-enum-told invariant-loop decreases-loop
 enum_told c = search rules
 
 returns : tie.Need-returns invariant-loop decreases-loop
-returns c = search count-end
+returns c = search count_end
 
 enum-known-number : tie.Need-enum-known-number invariant-loop decreases-loop
 enum-known-number c = search rules
 
 returns-2 : tie.Need-returns-2 invariant-loop decreases-loop
-returns-2 c = search count-stop
+returns-2 c = search count_stop
 
 pub count_spec : {M : Type 1} → statement M
 count_spec =

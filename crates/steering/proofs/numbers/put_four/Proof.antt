@@ -1,6 +1,6 @@
 -- `put_four` meets its contract: the number is put in two parts. Assumes nothing.
 use borrow.Author.Rules.{rules}
-use Rattle.steering.proofs.Laws.Writing.{parts-put}
+use Rattle.steering.proofs.Laws.Writing.{parts_put}
 use Rattle.steering.proofs.numbers.put_four.Statement.{statement}
 use Rattle.steering.proofs.numbers.put_four.Tie as tie
 
@@ -23,7 +23,7 @@ same_length : tie.Need-same-length
 same_length c = search rules
 
 returns : tie.Need-returns
-returns c = search (parts-put 2 2)
+returns c = search (parts_put 2 2)
 
 pub put-four-spec : {M : Type 1} → statement M
 put-four-spec =

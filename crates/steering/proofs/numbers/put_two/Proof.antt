@@ -2,7 +2,7 @@
 use native.Mathlib.Omega.{arith}
 use lib.ListN.{length-set}
 use borrow.Author.Rules.{rules}
-use Rattle.steering.proofs.Laws.Writing.{two-put}
+use Rattle.steering.proofs.Laws.Writing.{two_put}
 use Rattle.steering.proofs.numbers.put_two.Statement.{statement}
 use Rattle.steering.proofs.numbers.put_two.Tie as tie
 
@@ -25,7 +25,7 @@ same_length : tie.Need-same-length
 same_length c = search rules
 
 returns : tie.Need-returns
-returns c = search two-put
+returns c = search two_put
 
 pub put-two-spec : {M : Type 1} → statement M
 put-two-spec =

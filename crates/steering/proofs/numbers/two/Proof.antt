@@ -1,6 +1,6 @@
 -- `two` meets its contract. Assumes nothing.
 use borrow.Author.Rules.{rules}
-use Rattle.steering.proofs.Laws.Numbers.{both-fit, byte_fits, high_fits, two_bytes}
+use Rattle.steering.proofs.Laws.Numbers.{both_fit, byte_fits, high_fits, two_bytes}
 use Rattle.steering.proofs.numbers.two.Statement.{statement}
 use Rattle.steering.proofs.numbers.two.Tie as tie
 
@@ -23,7 +23,7 @@ cast-result-2 : tie.Need-overflow-cast-result-2
 cast-result-2 c = search (byte_fits, c.shared-slice-known2.given)
 
 add-result : tie.Need-overflow-add-result
-add-result c = search (both-fit, c.shared-slice-known2.given)
+add-result c = search (both_fit, c.shared-slice-known2.given)
 
 returns : tie.Need-returns
 returns c = search two_bytes

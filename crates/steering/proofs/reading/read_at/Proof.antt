@@ -1,8 +1,8 @@
--- `read_at` meets its contract: at each return the tests that led there say which case of `readAt` holds. Assumes nothing.
+-- `read_at` meets its contract: at each return the tests that led there say which case of `read_at` holds. Assumes nothing.
 use mathlib.Core.Path.{◌∙◌}
 use native.Mathlib.Nat.{add-sub_cancel_left}
 use borrow.Author.Rules.{rules}
-use Rattle.steering.proofs.Laws.Reading.{at-end, cut_short, past_end, too_long, unknown-kind, whole}
+use Rattle.steering.proofs.Laws.Reading.{at_end, cut_short, past_end, too_long, unknown_kind, whole}
 use Rattle.steering.proofs.reading.read_at.Statement.{statement}
 use Rattle.steering.proofs.reading.read_at.Tie as tie
 
@@ -19,7 +19,7 @@ returns-2 : tie.Need-returns-2
 returns-2 c = search (◌∙◌, too_long)
 
 returns-3 : tie.Need-returns-3
-returns-3 c = search at-end
+returns-3 c = search at_end
 
 shared-slice-read-kind : tie.Need-shared-slice-read-kind
 shared-slice-read-kind c = search rules
@@ -31,7 +31,7 @@ refused-requires-3 : tie.Need-refused-requires-3
 refused-requires-3 c κs = search rules
 
 returns-4 : tie.Need-returns-4
-returns-4 c = search (◌∙◌, unknown-kind)
+returns-4 c = search (◌∙◌, unknown_kind)
 
 add_at : tie.Need-overflow-add-at
 add_at c = search rules

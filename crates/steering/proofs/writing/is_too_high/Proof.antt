@@ -1,6 +1,6 @@
 -- `is_too_high` meets its contract: only a node has an address. Assumes nothing.
 use borrow.Author.Rules.{rules}
-use Rattle.steering.proofs.Laws.Writing.{node-too-high}
+use Rattle.steering.proofs.Laws.Writing.{node_too_high}
 use Rattle.steering.proofs.writing.is_too_high.Statement.{statement}
 use Rattle.steering.proofs.writing.is_too_high.Tie as tie
 
@@ -17,7 +17,7 @@ enum-told-3 : tie.Need-enum-told-3
 enum-told-3 c = search rules
 
 returns : tie.Need-returns
-returns c = search node-too-high
+returns c = search node_too_high
 
 returns-2 : tie.Need-returns-2
 returns-2 c = search rules

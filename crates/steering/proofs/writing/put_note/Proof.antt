@@ -1,6 +1,6 @@
 -- `put_note` meets its contract: four numbers, one behind the other. Assumes nothing.
 use borrow.Author.Rules.{rules}
-use Rattle.steering.proofs.Laws.Writing.{note-put}
+use Rattle.steering.proofs.Laws.Writing.{note_put}
 use Rattle.steering.proofs.writing.put_note.Statement.{statement}
 use Rattle.steering.proofs.writing.put_note.Tie as tie
 
@@ -29,7 +29,7 @@ same_length : tie.Need-same-length
 same_length c = search rules
 
 returns : tie.Need-returns
-returns c = search note-put
+returns c = search note_put
 
 pub put-note-spec : {M : Type 1} → statement M
 put-note-spec =

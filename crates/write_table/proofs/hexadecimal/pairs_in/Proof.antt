@@ -4,8 +4,8 @@ use Prim.Native.Nat.{◌+◌, ◌*◌, ◌-◌, ◌/◌, ◌≤◌}
 use lib.ListN.{drop, length, length-set}
 use lib.Seq.{sets}
 use borrow.Author.Rules.{rules}
-use Rattle.write_table.specs.Hexadecimal.{isHex, pairsOf}
-use Rattle.write_table.proofs.Laws.Hexadecimal.{all-pairs, all-put, goes_on, no-high, no-low, not_good, put-more, start}
+use Rattle.write_table.specs.Hexadecimal.{is_hex, pairs_of}
+use Rattle.write_table.proofs.Laws.Hexadecimal.{all_pairs, all_put, goes_on, no_high, no_low, not_good, put_more, start}
 use Rattle.write_table.proofs.hexadecimal.pairs_in.Statement.{statement}
 use Rattle.write_table.proofs.hexadecimal.pairs_in.Tie as tie
 
@@ -15,8 +15,8 @@ invariant-loop text room₀ from pairs i₀ room i =
     × (pairs ≡ length text / 2)
     × (from + pairs ≤ length room)
     × (length room ≡ length room₀)
-    × (isHex text ≡ isHex (drop (2 * i) text))
-    × (sets room₀ from (pairsOf text) ≡ sets room (from + i) (pairsOf (drop (2 * i) text)))
+    × (is_hex text ≡ is_hex (drop (2 * i) text))
+    × (sets room₀ from (pairs_of text) ≡ sets room (from + i) (pairs_of (drop (2 * i) text)))
 
 abbrev decreases-loop : tie.decreases-loop
 decreases-loop text room₀ from pairs i₀ room i = pairs - i
@@ -49,13 +49,13 @@ same_length : tie.Need-same-length invariant-loop decreases-loop
 same_length c = search rules
 
 returns : tie.Need-returns invariant-loop decreases-loop
-returns c = (search no-high, not_good)
+returns c = (search no_high, not_good)
 
 same-length-2 : tie.Need-same-length-2 invariant-loop decreases-loop
 same-length-2 c = search rules
 
 returns-2 : tie.Need-returns-2 invariant-loop decreases-loop
-returns-2 c = (search no-low, not_good)
+returns-2 c = (search no_low, not_good)
 
 mul-room : tie.Need-overflow-mul-room invariant-loop decreases-loop
 mul-room c = search rules
@@ -86,7 +86,7 @@ loop-again c =
       simp length-set (search rules),
       simp length-set (search rules),
       goes_on _ _ I.4 _ I.1 turn.loop-test.true _ _ high.value.ensures low.value2.ensures c.before.if1.false c.if2.false,
-      put-more _ _ I.4 _ I.1 turn.loop-test.true _ _ high.value.ensures low.value2.ensures _ _ _ I.5,
+      put_more _ _ I.4 _ I.1 turn.loop-test.true _ _ high.value.ensures low.value2.ensures _ _ _ I.5,
     )
 
 mul-result : tie.Need-overflow-mul-result invariant-loop decreases-loop
@@ -96,7 +96,7 @@ same-length-3 : tie.Need-same-length-3 invariant-loop decreases-loop
 same-length-3 c = search rules
 
 returns-3 : tie.Need-returns-3 invariant-loop decreases-loop
-returns-3 c = (search all-pairs, λ e. search all-put)
+returns-3 c = (search all_pairs, λ e. search all_put)
 
 pub pairs-in-spec : {M : Type 1} → statement M
 pairs-in-spec =

@@ -3,13 +3,13 @@ use mathlib.Core.Path.{◌≡◌}
 use Prim.Native.Nat.{◌+◌, ◌-◌, ◌≤◌}
 use lib.ListN.{drop, length}
 use borrow.Author.Rules.{rules}
-use Rattle.write_table.specs.Line.{digitsIn}
-use Rattle.write_table.proofs.Laws.Line.{all_digits, one-digit, too-high, too-low}
+use Rattle.write_table.specs.Line.{digits_in}
+use Rattle.write_table.proofs.Laws.Line.{all_digits, one_digit, too_high, too_low}
 use Rattle.write_table.proofs.line.digits_in.Statement.{statement}
 use Rattle.write_table.proofs.line.digits_in.Tie as tie
 
 abbrev invariant-loop : tie.invariant-loop
-invariant-loop line i₀ i-end i = (i ≤ i-end) × (i-end ≡ length line) × (digitsIn line ≡ i + digitsIn (drop i line))
+invariant-loop line i₀ i-end i = (i ≤ i-end) × (i-end ≡ length line) × (digits_in line ≡ i + digits_in (drop i line))
 
 abbrev decreases-loop : tie.decreases-loop
 decreases-loop line i₀ i-end i = i-end - i
@@ -21,10 +21,10 @@ shared-slice-read-digit : tie.Need-shared-slice-read-digit invariant-loop decrea
 shared-slice-read-digit c = search rules
 
 returns : tie.Need-returns invariant-loop decreases-loop
-returns c = (search too-low, search rules)
+returns c = (search too_low, search rules)
 
 returns-2 : tie.Need-returns-2 invariant-loop decreases-loop
-returns-2 c = (search too-high, search rules)
+returns-2 c = (search too_high, search rules)
 
 add-i : tie.Need-overflow-add-i invariant-loop decreases-loop
 add-i c = search rules
@@ -33,7 +33,7 @@ loop-less : tie.Need-loop-smaller invariant-loop decreases-loop
 loop-less c = search rules
 
 loop-again : tie.Need-loop-preserved invariant-loop decreases-loop
-loop-again c = (search rules, search rules, search one-digit)
+loop-again c = (search rules, search rules, search one_digit)
 
 returns-3 : tie.Need-returns-3 invariant-loop decreases-loop
 returns-3 c = (search all_digits, search rules)

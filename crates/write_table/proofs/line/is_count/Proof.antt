@@ -1,7 +1,7 @@
 -- `is_count` meets its contract: what the line is compared with is the text that was put together. Assumes nothing.
 use mathlib.Core.Path.{refl}
 use borrow.Author.Rules.{rules}
-use Rattle.write_table.proofs.Laws.Line.{count-compared}
+use Rattle.write_table.proofs.Laws.Line.{count_compared}
 use Rattle.write_table.proofs.line.is_count.Statement.{statement}
 use Rattle.write_table.proofs.line.is_count.Tie as tie
 
@@ -36,7 +36,7 @@ returns : tie.Need-returns
 returns c =
     let digits = c.before.before.before.before in
     let named = digits.before.before.before in
-    count-compared _ _ _ _ _ _ _ _ named.put.ensures digits.put-decimal.ensures refl c.same.ensures
+    count_compared _ _ _ _ _ _ _ _ named.put.ensures digits.put-decimal.ensures refl c.same.ensures
 
 pub is-count-spec : {M : Type 1} → statement M
 is-count-spec =

@@ -2,7 +2,7 @@
 use mathlib.Core.Path.{refl}
 use borrow.Author.Tests.{not-false, not-true}
 use borrow.Author.Rules.{rules}
-use Rattle.write_table.proofs.Laws.Line.{body-too-long, no_body, no_kind, whole-record}
+use Rattle.write_table.proofs.Laws.Line.{body_too_long, no_body, no_kind, whole_record}
 use Rattle.write_table.proofs.line.record_behind.Statement.{statement}
 use Rattle.write_table.proofs.line.record_behind.Tie as tie
 
@@ -16,10 +16,10 @@ sub-if1 : tie.Need-overflow-sub-if1
 sub-if1 c = search rules
 
 returns : tie.Need-returns
-returns c = search body-too-long
+returns c = search body_too_long
 
-add-behind : tie.Need-overflow-add-behind
-add-behind c = search rules
+add_behind : tie.Need-overflow-add-behind
+add_behind c = search rules
 
 sub-pairs-in : tie.Need-overflow-sub-pairs-in
 sub-pairs-in c = search rules
@@ -84,7 +84,7 @@ returns-4 c =
     let start = kind.before.before.before in
     let kind-good = not-false _ second.if2.false in
     let body-good = not-false _ third.if3.false in
-    whole-record _ _ start.before.before.requires _ kind.pairs-in.ensures.0 kind-good _ body.pairs-in2.ensures.0 body-good
+    whole_record _ _ start.before.before.requires _ kind.pairs-in.ensures.0 kind-good _ body.pairs-in2.ensures.0 body-good
     start.if1.false _ _ _ refl (kind.pairs-in.ensures.1 kind-good) (body.pairs-in2.ensures.1 body-good) _ c.record_of.ensures
 
 pub record-behind-spec : {M : Type 1} → statement M
@@ -95,7 +95,7 @@ record-behind-spec =
     add_body
     sub-if1
     returns
-    add-behind
+    add_behind
     sub-pairs-in
     part-pairs-in-start
     part-pairs-in-end

@@ -1,7 +1,7 @@
 -- `record_in` meets its contract, a case for each return. Assumes nothing.
 use borrow.Author.Tests.{not-false, not-true}
 use borrow.Author.Rules.{rules}
-use Rattle.write_table.proofs.Laws.Line.{framed, framed-long, unframed}
+use Rattle.write_table.proofs.Laws.Line.{framed, framed_long, unframed}
 use Rattle.write_table.proofs.line.record_in.Statement.{statement}
 use Rattle.write_table.proofs.line.record_in.Tie as tie
 
@@ -15,7 +15,7 @@ returns : tie.Need-returns
 returns c = search (unframed, not-true)
 
 record-behind-requires : tie.Need-record-behind-requires
-record-behind-requires c κs = search (framed-long, not-false)
+record-behind-requires c κs = search (framed_long, not-false)
 
 returns-2 : tie.Need-returns-2
 returns-2 c = search (framed, not-false)

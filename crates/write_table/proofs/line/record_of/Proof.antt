@@ -1,6 +1,6 @@
 -- `record_of` meets its contract, a case for each case of a reading. Assumes nothing.
 use borrow.Author.Rules.{rules}
-use Rattle.write_table.proofs.Laws.Line.{found_all, found-end, found_none, found_part}
+use Rattle.write_table.proofs.Laws.Line.{found_all, found_end, found_none, found_part}
 use Rattle.write_table.proofs.line.record_of.Statement.{statement}
 use Rattle.write_table.proofs.line.record_of.Tie as tie
 
@@ -23,7 +23,7 @@ returns-2 : tie.Need-returns-2
 returns-2 c = search found_part
 
 returns-3 : tie.Need-returns-3
-returns-3 c = search found-end
+returns-3 c = search found_end
 
 returns-4 : tie.Need-returns-4
 returns-4 c = search found_none

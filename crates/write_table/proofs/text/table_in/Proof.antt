@@ -3,8 +3,8 @@ use mathlib.Core.Path.{◌≡◌}
 use Prim.Native.Nat.{◌-◌, ◌≤◌}
 use lib.ListN.{drop, length, take}
 use borrow.Author.Rules.{rules}
-use Rattle.write_table.specs.Text.{textFrom, text_of}
-use Rattle.write_table.proofs.Laws.Text.{bad-left, bad-made, left_is, made-is, next-line, next-long, next-size, one_byte, text-starts}
+use Rattle.write_table.specs.Text.{text_from, text_of}
+use Rattle.write_table.proofs.Laws.Text.{bad_left, bad_made, left_is, made_is, next_line, next_long, next_size, one_byte, text_starts}
 use Rattle.write_table.proofs.text.table_in.Statement.{statement}
 use Rattle.write_table.proofs.text.table_in.Tie as tie
 
@@ -17,13 +17,13 @@ invariant-loop text goes_on room₀ n from₀ count₀ size₀ i₀ room from co
     × (count ≤ from)
     × (size ≤ 4096)
     × (length room ≡ 4096)
-    × (text_of goes_on text ≡ textFrom goes_on (take (i - from) (drop from text)) count (take size room) (drop i text))
+    × (text_of goes_on text ≡ text_from goes_on (take (i - from) (drop from text)) count (take size room) (drop i text))
 
 abbrev decreases-loop : tie.decreases-loop
 decreases-loop text goes_on room₀ n from₀ count₀ size₀ i₀ room from count size i = n - i
 
 loop-holds : tie.Need-loop-init invariant-loop decreases-loop
-loop-holds c = (search rules, search rules, search rules, search rules, search rules, search rules, search rules, search text-starts)
+loop-holds c = (search rules, search rules, search rules, search rules, search rules, search rules, search rules, search text_starts)
 
 shared-slice-read-if1 : tie.Need-shared-slice-read-if1 invariant-loop decreases-loop
 shared-slice-read-if1 c = search rules
@@ -59,7 +59,7 @@ same_length : tie.Need-same-length invariant-loop decreases-loop
 same_length c = search rules
 
 returns : tie.Need-returns invariant-loop decreases-loop
-returns c = (search made-is, search left_is)
+returns c = (search made_is, search left_is)
 
 add-from : tie.Need-overflow-add-from invariant-loop decreases-loop
 add-from c = search rules
@@ -84,9 +84,9 @@ loop-again-2 c =
       search rules,
       search rules,
       search rules,
-      search next-size,
-      search next-long,
-      next-line _ _ _ _ _ _ _ I.7 _ I.1 turn.loop-test.true end.before.if1.false _ end.is-end.ensures I.6 I.5 _
+      search next_size,
+      search next_long,
+      next_line _ _ _ _ _ _ _ I.7 _ I.1 turn.loop-test.true end.before.if1.false _ end.is-end.ensures I.6 I.5 _
           took.take-line.ensures.0 _ took.take-line.ensures.1 c.if2.false,
     )
 
@@ -97,7 +97,7 @@ same-length-2 : tie.Need-same-length-2 invariant-loop decreases-loop
 same-length-2 c = search rules
 
 returns-2 : tie.Need-returns-2 invariant-loop decreases-loop
-returns-2 c = (search bad-made, search bad-left)
+returns-2 c = (search bad_made, search bad_left)
 
 pub table-in-spec : {M : Type 1} → statement M
 table-in-spec =

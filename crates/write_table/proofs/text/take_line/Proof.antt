@@ -1,6 +1,6 @@
 -- `take_line` meets its contract, a case for each case of a line. Assumes nothing.
 use borrow.Author.Rules.{rules}
-use Rattle.write_table.proofs.Laws.Text.{leaves-is, line-fits, step_is, step-of-record}
+use Rattle.write_table.proofs.Laws.Text.{leaves_is, line_fits, step_is, step_of_record}
 use Rattle.write_table.proofs.text.take_line.Statement.{statement}
 use Rattle.write_table.proofs.text.take_line.Tie as tie
 
@@ -11,7 +11,7 @@ enum-known-given : tie.Need-enum-known-given
 enum-known-given c = search rules
 
 take-record-requires : tie.Need-take-record-requires
-take-record-requires c κs = (search line-fits, search rules)
+take-record-requires c κs = (search line_fits, search rules)
 
 enum_told : tie.Need-enum-told
 enum_told c = search rules
@@ -32,13 +32,13 @@ same_length : tie.Need-same-length
 same_length c = search rules
 
 returns : tie.Need-returns
-returns c = (search step-of-record, search leaves-is)
+returns c = (search step_of_record, search leaves_is)
 
 returns-2 : tie.Need-returns-2
-returns-2 c = (search step_is, search leaves-is)
+returns-2 c = (search step_is, search leaves_is)
 
 returns-3 : tie.Need-returns-3
-returns-3 c = (search step_is, search leaves-is)
+returns-3 c = (search step_is, search leaves_is)
 
 pub take-line-spec : {M : Type 1} → statement M
 take-line-spec =

@@ -1,6 +1,6 @@
 -- `take_record` meets its contract: a record of a line is refused only where it finds no room. Assumes nothing.
 use borrow.Author.Rules.{rules}
-use Rattle.write_table.proofs.Laws.Text.{record-left, record-put, record-refused, record-taken}
+use Rattle.write_table.proofs.Laws.Text.{record_left, record_put, record_refused, record_taken}
 use Rattle.write_table.proofs.text.take_record.Statement.{statement}
 use Rattle.write_table.proofs.text.take_record.Tie as tie
 
@@ -17,13 +17,13 @@ same_length : tie.Need-same-length
 same_length c = search rules
 
 returns : tie.Need-returns
-returns c = (search record-refused, search record-left)
+returns c = (search record_refused, search record_left)
 
 same-length-2 : tie.Need-same-length-2
 same-length-2 c = search rules
 
 returns-2 : tie.Need-returns-2
-returns-2 c = (search record-taken, search record-put)
+returns-2 c = (search record_taken, search record_put)
 
 pub take-record-spec : {M : Type 1} → statement M
 take-record-spec =

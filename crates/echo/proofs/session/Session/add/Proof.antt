@@ -1,6 +1,6 @@
 -- `add` meets its contract: eight bits for each byte, where so many can be counted. Assumes nothing.
 use Rattle.std.proofs.Common.{rules}
-use Rattle.echo.proofs.Laws.Sessions.{as_bits, over-3, over-4}
+use Rattle.echo.proofs.Laws.Sessions.{as_bits, over_3, over_4}
 use Rattle.echo.proofs.session.Session.add.Statement.{statement}
 use Rattle.echo.proofs.session.Session.add.Tie as tie
 
@@ -8,10 +8,10 @@ is-session-requires : tie.Need-is-session-requires
 is-session-requires c κs = search rules
 
 returns : tie.Need-returns
-returns c = search over-4
+returns c = search over_4
 
 returns-2 : tie.Need-returns-2
-returns-2 c = search over-3
+returns-2 c = search over_3
 
 mul-add-bits : tie.Need-overflow-mul-add-bits
 mul-add-bits c = search rules

@@ -1,6 +1,6 @@
 -- `take_line` is safe: what a line says has its name within the line. Assumes nothing.
 use borrow.Author.Rules.{rules}
-use Rattle.echosum.proofs.Laws.Listed.{name-ends, name-starts}
+use Rattle.echosum.proofs.Laws.Listed.{name_ends, name_starts}
 use Rattle.echosum.proofs.checking.Tally.take_line.Statement.{statement}
 use Rattle.echosum.proofs.checking.Tally.take_line.Tie as tie
 
@@ -20,13 +20,13 @@ slice-aggregate-put-listed : tie.Need-slice-aggregate-put-listed
 slice-aggregate-put-listed c = search rules
 
 sub-put-listed : tie.Need-overflow-sub-put-listed
-sub-put-listed c = search name-starts
+sub-put-listed c = search name_starts
 
 part-put-listed-start : tie.Need-slice-bounds-put-listed-start
-part-put-listed-start c = search name-starts
+part-put-listed-start c = search name_starts
 
 part-put-listed-end : tie.Need-slice-bounds-put-listed-end
-part-put-listed-end c = search name-ends
+part-put-listed-end c = search name_ends
 
 put-listed-requires : tie.Need-put-listed-requires
 put-listed-requires c κs = search rules

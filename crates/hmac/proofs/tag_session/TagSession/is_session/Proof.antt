@@ -1,6 +1,6 @@
 -- `is_session` meets its contract, a case for each return. Assumes nothing.
 use borrow.Author.Rules.{rules}
-use Rattle.hmac.proofs.Laws.TagSessions.{counts-decide, inner-other-mode, no_inner, no_outer, other-bits, other-salt, outer-other-mode}
+use Rattle.hmac.proofs.Laws.TagSessions.{counts_decide, inner_other_mode, no_inner, no_outer, other_bits, other_salt, outer_other_mode}
 use Rattle.hmac.proofs.tag_session.TagSession.is_session.Statement.{statement}
 use Rattle.hmac.proofs.tag_session.TagSession.is_session.Tie as tie
 
@@ -20,16 +20,16 @@ is-double-pipe-requires : tie.Need-is-double-pipe-requires
 is-double-pipe-requires c κs = search rules
 
 returns-3 : tie.Need-returns-3
-returns-3 c = search inner-other-mode
+returns-3 c = search inner_other_mode
 
 is-double-pipe-requires-2 : tie.Need-is-double-pipe-requires-2
 is-double-pipe-requires-2 c κs = search rules
 
 returns-4 : tie.Need-returns-4
-returns-4 c = search outer-other-mode
+returns-4 c = search outer_other_mode
 
 returns-5 : tie.Need-returns-5
-returns-5 c = search other-bits
+returns-5 c = search other_bits
 
 slice-aggregate-same : tie.Need-slice-aggregate-same
 slice-aggregate-same c = search rules
@@ -41,13 +41,13 @@ same-requires : tie.Need-same-requires
 same-requires c κs = search rules
 
 returns-6 : tie.Need-returns-6
-returns-6 c = search other-salt
+returns-6 c = search other_salt
 
 counts-fit-requires : tie.Need-counts-fit-requires
 counts-fit-requires c κs = search rules
 
 returns-7 : tie.Need-returns-7
-returns-7 c = search counts-decide
+returns-7 c = search counts_decide
 
 pub is-session-spec : {M : Type 1} → statement M
 is-session-spec =

@@ -1,3 +1,4 @@
+#![tactic(auto)]
 // One round of the AES (FIPS 197) and its way back, on a word of sixteen bytes with a key of sixteen bytes:
 //
 //     let out = aes_round::round(word, key);

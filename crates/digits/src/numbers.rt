@@ -4,7 +4,7 @@ ghost use Rattle.digits.specs.Numbers.{number_of};
 
 use super::hexadecimal::nibble;
 
-#[derive(Drop)]
+#[derive(Clone, Copy)]
 pub struct Number {
     pub is_good: bool,
     pub value: u64,

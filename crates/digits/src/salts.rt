@@ -4,7 +4,7 @@ ghost use Rattle.digits.specs.Salts.{salt_of};
 
 use super::hexadecimal::nibble;
 
-#[derive(Drop)]
+#[derive(Clone, Copy)]
 pub struct Salt {
     pub is_good: bool,
     pub bytes: [u8; 16],

@@ -3,7 +3,7 @@ ghost use Rattle.std.specs.Prelude.{◌≡◌, ◌+◌, ◌%◌, ◌^◌};
 ghost use Rattle.echo.specs.Numbers.{halves};
 
 // The lower and the upper half.
-#[derive(Drop)]
+#[derive(Clone, Copy)]
 pub(crate) struct Counter {
     pub low: u64,
     pub high: u64,

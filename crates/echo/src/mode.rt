@@ -1,5 +1,5 @@
 // The mode: how much of the square the chaining variable takes (section 5).
-#[derive(Drop)]
+#[derive(Clone, Copy)]
 pub enum Mode {
     DoublePipe,
     SinglePipe,

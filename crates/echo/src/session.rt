@@ -12,7 +12,7 @@ use super::refusals::{BIT_LIMIT, LIMIT};
 use super::waiting::{absorb, zeros_from};
 
 // A digest that is under way. It is passed by value, and each call hands it back.
-#[derive(Drop)]
+#[derive(Clone, Copy)]
 pub struct Session {
     pub mode: Mode,
     // the digest length
@@ -27,7 +27,7 @@ pub struct Session {
 }
 
 // What a call answers: a refusal number, 0 for none, and the session.
-#[derive(Drop)]
+#[derive(Clone, Copy)]
 pub struct Answer {
     pub refusal: u8,
     pub session: Session,

@@ -5,7 +5,7 @@ ghost use Rattle.hmac.specs.Routines.{check_answer, make_leaves, make_refusal, v
 use super::tag_session::TagSession;
 
 // What a check at once answers: a refusal number, 0 for none, and whether the tag is right.
-#[derive(Drop)]
+#[derive(Clone, Copy)]
 pub struct Verdict {
     pub refusal: u8,
     pub yes: bool,

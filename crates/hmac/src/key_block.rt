@@ -9,7 +9,7 @@ ghost use Rattle.hmac.specs.Hmac.{key_block};
 use echo::{Mode, Session};
 
 // A refusal number, 0 for none, and K0 at the front of room for either family's block.
-#[derive(Drop)]
+#[derive(Clone, Copy)]
 pub(crate) struct KeyBlock {
     pub refusal: u8,
     pub bytes: [u8; 192],

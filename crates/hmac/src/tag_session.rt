@@ -8,7 +8,7 @@ use super::key_block::{block_size, key_block, keyed};
 use echo::{Mode, Session};
 
 // A tag that is under way. It is passed by value, and each call hands it back. It is worth as much as its key: whoever reads it can make tags.
-#[derive(Drop)]
+#[derive(Clone, Copy)]
 pub struct TagSession {
     // the digest of K0 xored with ipad, and of the message so far
     pub inner: Session,
@@ -17,14 +17,14 @@ pub struct TagSession {
 }
 
 // What a call answers: a refusal number, 0 for none, and the session.
-#[derive(Drop)]
+#[derive(Clone, Copy)]
 pub struct TagAnswer {
     pub refusal: u8,
     pub session: TagSession,
 }
 
 // What a check answers: a refusal number, 0 for none, whether the tag is right, and the session.
-#[derive(Drop)]
+#[derive(Clone, Copy)]
 pub struct Checking {
     pub refusal: u8,
     pub yes: bool,

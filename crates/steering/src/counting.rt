@@ -5,7 +5,7 @@ ghost use Rattle.steering.specs.Parsing.{count_of, parse};
 use super::reading::{Reading, read_at};
 
 // A refusal number, 0 for none, its place, and the number of records, 0 where the table is refused.
-#[derive(Drop)]
+#[derive(Clone, Copy)]
 pub struct Counted {
     pub refusal: u8,
     pub place: usize,

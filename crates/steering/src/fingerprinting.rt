@@ -7,7 +7,7 @@ use super::counting::count;
 use echo::Mode;
 
 // A refusal number, 0 for none, and its place.
-#[derive(Drop)]
+#[derive(Clone, Copy)]
 pub struct Fingerprinted {
     pub refusal: u8,
     pub place: usize,

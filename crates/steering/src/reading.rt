@@ -5,7 +5,7 @@ ghost use Rattle.steering.specs.Reading.{read_at};
 use super::records::{Record, body_length, record_of};
 
 // What stands at a place of a table.
-#[derive(Drop)]
+#[derive(Clone, Copy)]
 pub enum Reading {
     // A record, and the place behind it.
     Found { record: Record, next: usize },

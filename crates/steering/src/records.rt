@@ -5,30 +5,30 @@ ghost use Rattle.steering.specs.Records.{body_length, record_of};
 use super::numbers::{eight, four, six, two};
 
 // 2.4 GHz and 5 GHz.
-#[derive(Drop)]
+#[derive(Clone, Copy)]
 pub enum Radio {
     Low,
     High,
 }
 
 // Six bytes.
-#[derive(Drop)]
+#[derive(Clone, Copy)]
 pub struct NodeAddress {
     pub address: u64,
 }
 
-#[derive(Drop)]
+#[derive(Clone, Copy)]
 pub struct JoinFloor {
     pub radio: Radio,
     pub level: u16,
 }
 
-#[derive(Drop)]
+#[derive(Clone, Copy)]
 pub struct HoldTime {
     pub time: u32,
 }
 
-#[derive(Drop)]
+#[derive(Clone, Copy)]
 pub struct Note {
     pub first: u64,
     pub second: u64,
@@ -36,7 +36,7 @@ pub struct Note {
     pub fourth: u64,
 }
 
-#[derive(Drop)]
+#[derive(Clone, Copy)]
 pub enum Record {
     Node(NodeAddress),
     Floor(JoinFloor),

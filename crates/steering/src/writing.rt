@@ -8,7 +8,7 @@ use super::numbers::{put_eight, put_four, put_six, put_two};
 use super::records::{Note, Radio, Record, body_length, record_of};
 
 // A refusal number, 0 for none, and the place behind the record, 0 with a refusal.
-#[derive(Drop)]
+#[derive(Clone, Copy)]
 pub struct Written {
     pub refusal: u8,
     pub next: usize,

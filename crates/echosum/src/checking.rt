@@ -12,7 +12,7 @@ use libc::STDOUT_FILENO;
 use lines::{put, put_named};
 
 // What came of the lines of a list so far.
-#[derive(Drop)]
+#[derive(Clone, Copy)]
 pub(crate) struct Tally {
     // whether the list comes from standard input, which no line of it can name then
     pub is_input: bool,

@@ -5,7 +5,7 @@ ghost use Rattle.echosum.specs.Hexadecimal.{digits_in, hex_of};
 use digits::nibble;
 
 // The bytes of pairs of digits, with zeros behind them.
-#[derive(Drop)]
+#[derive(Clone, Copy)]
 pub(crate) struct Hex {
     pub is_good: bool,
     pub bytes: [u8; 64],

@@ -14,7 +14,7 @@ use super::names::is_name;
 use digits::{number_in, salt_in};
 
 // What a line without a tag leaves to the flags: mode, salt, and the bits that it has to have, 0 where any will do.
-#[derive(Drop)]
+#[derive(Clone, Copy)]
 pub(crate) struct Terms {
     pub is_single: bool,
     pub bits: u64,
@@ -23,7 +23,7 @@ pub(crate) struct Terms {
 
 // What a line says. The digest has zeros behind it, and the name stands from one place up to another. Nothing is said by a line that is
 // not good.
-#[derive(Drop)]
+#[derive(Clone, Copy)]
 pub(crate) struct Listed {
     pub is_good: bool,
     pub is_single: bool,
@@ -36,7 +36,7 @@ pub(crate) struct Listed {
 }
 
 // What stands in front of a tagged line's name.
-#[derive(Drop)]
+#[derive(Clone, Copy)]
 struct Head {
     is_good: bool,
     is_single: bool,

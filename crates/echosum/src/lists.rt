@@ -13,7 +13,7 @@ use libc::STDIN_FILENO;
 const LONGEST: usize = 1048576;
 
 // A list that is being read.
-#[derive(Drop)]
+#[derive(Clone, Copy)]
 struct Reading {
     // the bytes of the line at hand, those that found no room among them
     length: usize,

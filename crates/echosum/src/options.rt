@@ -6,7 +6,7 @@ use super::words::{begins_with, is_dashed, is_flag};
 use digits::{number_in, salt_in};
 
 // What the words so far ask for, and what the next one is.
-#[derive(Drop)]
+#[derive(Clone, Copy)]
 pub(crate) struct Options {
     // whether single-pipe is asked for
     pub is_single: bool,

@@ -7,7 +7,7 @@ ghost use Rattle.echosum.specs.Style.{back_of, end_of, front_of, line_of, tag_of
 
 use lines::{put, put_decimal, put_hex, put_named};
 
-#[derive(Drop)]
+#[derive(Clone, Copy)]
 pub(crate) struct Style {
     pub is_tagged: bool,
     pub is_zero_ended: bool,

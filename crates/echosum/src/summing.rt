@@ -5,7 +5,7 @@ use echo::{Mode, Session};
 use libc::{ENOENT, STDIN_FILENO, STDOUT_FILENO};
 
 // A session that has taken what was read so far, whether there may be more, and whether it has taken the whole file.
-#[derive(Drop)]
+#[derive(Clone, Copy)]
 struct Progress {
     goes_on: bool,
     is_whole: bool,
@@ -13,14 +13,14 @@ struct Progress {
 }
 
 // How a file or a list went: whether there may be more of them, which ends where standard output can't be written, and whether all is well.
-#[derive(Drop)]
+#[derive(Clone, Copy)]
 pub(crate) struct Outcome {
     pub goes_on: bool,
     pub is_good: bool,
 }
 
 // The digest of a whole file, with zeros behind it; or none, and whether that is since the file is missing.
-#[derive(Drop)]
+#[derive(Clone, Copy)]
 pub(crate) struct Summed {
     pub is_whole: bool,
     pub is_missing: bool,

@@ -6,7 +6,7 @@ use super::words::word;
 use libc::STDIN_FILENO;
 
 // How many bytes came, and whether nothing failed. Where something did, what came before it is no table.
-#[derive(Drop)]
+#[derive(Clone, Copy)]
 pub(crate) struct Input {
     pub is_whole: bool,
     pub size: usize,

@@ -4,7 +4,7 @@ use super::words::is_dashed;
 use digits::salt_in;
 
 // What the words so far ask for, and what the next one is.
-#[derive(Drop)]
+#[derive(Clone, Copy)]
 pub(crate) struct Options {
     // whether a refusal is said in words too
     pub explains: bool,

@@ -3,7 +3,7 @@ use super::saying::{say_bad_word, say_second_file};
 use super::words::is_dashed;
 
 // What the words so far ask for.
-#[derive(Drop)]
+#[derive(Clone, Copy)]
 pub(crate) struct Options {
     // whether a refusal is said in words too
     pub explains: bool,

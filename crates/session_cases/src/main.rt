@@ -60,7 +60,7 @@ fn number_of(mode: Mode) -> u64 {
 }
 
 // How a session is printed: all of it or what it had before it had a mode, by its bits or its bytes, and the count that it was handed over with.
-#[derive(Drop)]
+#[derive(Clone, Copy)]
 struct Form {
     all: bool,
     in_bits: bool,

@@ -84,7 +84,7 @@ fn number_of(mode: Mode) -> u64 {
 
 // How a session is printed: all of it or what it had before it had a mode, by its bits or its bytes, and the counts that its two sessions were handed
 // over with.
-#[derive(Drop)]
+#[derive(Clone, Copy)]
 struct Form {
     all: bool,
     in_bits: bool,

@@ -11,7 +11,7 @@ use super::hexadecimal::pairs_in;
 use lines::{put, put_decimal};
 use steering::{Reading, Record};
 
-#[derive(Drop)]
+#[derive(Clone, Copy)]
 pub(crate) enum Line {
     Record(Record),
     // The count of the records before it.

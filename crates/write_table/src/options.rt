@@ -3,7 +3,7 @@ use super::saying::{say_bad_word, say_second_file};
 use super::words::is_dashed;
 
 // What the words so far ask for.
-#[derive(Drop)]
+#[derive(Clone, Copy)]
 pub(crate) struct Options {
     // which word names the file, and 0 where none does
     pub file: usize,

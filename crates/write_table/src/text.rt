@@ -9,14 +9,14 @@ use super::line::{Line, line_in};
 use steering::Record;
 
 // The number of the first bad line, 0 for none, and the size of the table, 0 where a line is bad.
-#[derive(Drop)]
+#[derive(Clone, Copy)]
 pub(crate) struct Made {
     pub bad_line: usize,
     pub size: usize,
 }
 
 // What a line comes to: whether the text is over with it, and then what came of the text; or the size of the table with one record more.
-#[derive(Drop)]
+#[derive(Clone, Copy)]
 struct Step {
     is_over: bool,
     bad_line: usize,

@@ -1,3 +1,4 @@
+#![tactic(auto)]
 // The library as C and Rust see it: include/bahmorist.h declares these functions. A slice is a pointer and a length there. Each but the last answers as
 // the routine of a layer below that it calls, and so its contract is that routine's; those that end in `_in`, `bahmorist_digest_bits` and
 // `bahmorist_compress_wide` take a mode as a number, and refuse a number that is no mode's by 6. Those that end in `_wide` take a counter of 128 bits by its halves.

@@ -1,3 +1,4 @@
+#![tactic(auto)]
 // Digests the messages of standard input's cases, at once or in pieces, and prints each digest in hex, or `refused N`.
 //
 // A case is 32 bytes: the digest length in bits (two bytes), the message's length (two), a seed, the piece size (two; 0 for the digest at

@@ -1,3 +1,4 @@
+#![tactic(auto)]
 // Digits in words of the command line and in lines of lists: the value of one, and the number or the salt that they stand for.
 mod hexadecimal;
 mod numbers;

@@ -1,3 +1,4 @@
+#![tactic(auto)]
 // ECHO 2.0: the rounds of its square, forward and backward, compression, sessions and digests.
 mod bits;
 mod compression;

@@ -1,3 +1,4 @@
+#![tactic(auto)]
 // Runs rounds, forward and backward, and compressions on the cases of standard input, which a second implementation made, and prints
 // the refusal number of each and the whole lent memory behind it.
 //

@@ -1,3 +1,4 @@
+#![tactic(auto)]
 // Prints the ECHO digest of each file that is named, or of standard input, or checks lists of such lines: echosum --help tells how. Every line
 // is one write.
 mod bytes;

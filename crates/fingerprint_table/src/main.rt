@@ -1,3 +1,4 @@
+#![tactic(auto)]
 // Prints the fingerprint of a steering table as 64 hex digits, or `refused N at P`. A file or standard input holds sixteen salt bytes and then
 // the table; or the table alone, where the salt is on the command line. The line is one write.
 mod explaining;

@@ -1,3 +1,4 @@
+#![tactic(auto)]
 // Runs the nine full rounds of FIPS 197, Appendix B. Standard input has the word that starts round 1 and then the nine keys, a line
 // of 32 hex digits each. The program prints the result of each round, and then what the way back makes of it, from the last round to
 // the first.

@@ -1,3 +1,4 @@
+#![tactic(auto)]
 // HMAC by FIPS 198-1 over ECHO digests: tags of messages, at once or over a session.
 mod at_once;
 mod comparison;

@@ -1,3 +1,4 @@
+#![tactic(auto)]
 // Lines of text, put together in a room that the caller lends, so that a program can write each with one call.
 //
 // Every routine takes the room and a place in it, puts its text there and answers the place behind it, for the next one to go on from.

@@ -1,3 +1,4 @@
+#![tactic(auto)]
 // Adds to and reads the sessions of standard input's cases, which need not come from an opening nor be sessions at all, and prints
 // everything that is handed back.
 //

@@ -1,3 +1,4 @@
+#![tactic(auto)]
 // Steering tables: reading and writing a record at a place, counting a table's records, and a table's fingerprint.
 mod counting;
 mod fingerprinting;

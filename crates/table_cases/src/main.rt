@@ -1,3 +1,4 @@
+#![tactic(auto)]
 // Reads tables of standard input's cases at a place, counts their records or takes their fingerprint, or writes a record at a place of a room,
 // and prints what was answered.
 //

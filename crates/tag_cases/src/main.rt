@@ -1,3 +1,4 @@
+#![tactic(auto)]
 // Makes and checks the tags of standard input's cases, and opens, adds to, reads, checks and asks about tag sessions, which need not come from an
 // opening nor be tag sessions at all. Prints the tags, and everything that is handed back.
 //

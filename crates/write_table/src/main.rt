@@ -1,3 +1,4 @@
+#![tactic(auto)]
 // Makes a steering table of the lines that list_table prints, from a file or from standard input, and writes its bytes to standard output; or prints
 // `bad line N` alone, for the first line that is bad. Nothing is written before all of the text is known to be good.
 mod help;

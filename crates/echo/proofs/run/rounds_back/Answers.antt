@@ -1,0 +1,19 @@
+-- `rounds_back` meets its contract: a refusal leaves the square, and else it is `rounds_back_wide` with the upper half zero. Assumes nothing.
+use Rattle.echo.specs.Routines.{rounds_back_leave}
+use Rattle.echo.proofs.Laws.Refusals.{refused}
+use Rattle.echo.proofs.Laws.UpperHalfZero.{same_rounds_back, same_rounds_refusal}
+use Rattle.echo.proofs.run.rounds_back.Goals as goal
+
+pub returns-then-refusal-ne0-clause-refusal : goal.returns-then-refusal-ne0-clause-refusal
+unfolding rounds_back_leave
+returns-then-refusal-ne0-clause-refusal c = search
+
+pub returns-then-refusal-ne0-clause-left : goal.returns-then-refusal-ne0-clause-left
+unfolding rounds_back_leave
+returns-then-refusal-ne0-clause-left c = search refused
+
+pub returns-clause-refusal : goal.returns-clause-refusal
+returns-clause-refusal c = search same_rounds_refusal
+
+pub returns-clause-left : goal.returns-clause-left
+returns-clause-left c = search same_rounds_back

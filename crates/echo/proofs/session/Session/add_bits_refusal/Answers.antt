@@ -1,0 +1,27 @@
+-- `add_bits_refusal` meets its contract, a case for each return. Assumes nothing.
+use Rattle.echo.proofs.Laws.Sessions.{add_0, add_16, add_17, add_3, add_4, add_6, size_fits, taken_most}
+use Rattle.echo.proofs.session.Session.add_bits_refusal.Goals as goal
+
+pub returns-then-not-is_session : goal.returns-then-not-is_session
+returns-then-not-is_session c = search add_3
+
+pub overflow_sub-taken : goal.overflow_sub-taken
+overflow_sub-taken c = search taken_most
+
+pub returns-then-taken-count : goal.returns-then-taken-count
+returns-then-taken-count c = search add_4
+
+pub overflow_add-count : goal.overflow_add-count
+overflow_add-count c = search size_fits
+
+pub returns-then-piece-count : goal.returns-then-piece-count
+returns-then-piece-count c = search add_6
+
+pub returns-then-behind_part : goal.returns-then-behind_part
+returns-then-behind_part c = search add_16
+
+pub returns-then-not-zero_bits_from : goal.returns-then-not-zero_bits_from
+returns-then-not-zero_bits_from c = search add_17
+
+pub returns : goal.returns
+returns c = search add_0

@@ -1,0 +1,27 @@
+-- `write_body_at` meets its contract, a case for each return: the record of that kind and body has these bytes. Assumes nothing.
+use Rattle.steering.proofs.Laws.Writing.{body_answer, body_answer_10, body_answer_5, body_answer_9, body_left, body_left_10, body_left_5, body_left_9}
+use Rattle.steering.proofs.writing.write_body_at.Goals as goal
+
+pub returns-then-is_short-clause-answer : goal.returns-then-is_short-clause-answer
+returns-then-is_short-clause-answer c = search body_answer_5
+
+pub returns-then-is_short-clause-left : goal.returns-then-is_short-clause-left
+returns-then-is_short-clause-left c = search body_left_5
+
+pub returns-then-length-eq0-clause-answer : goal.returns-then-length-eq0-clause-answer
+returns-then-length-eq0-clause-answer c = search body_answer_9
+
+pub returns-then-length-eq0-clause-left : goal.returns-then-length-eq0-clause-left
+returns-then-length-eq0-clause-left c = search body_left_9
+
+pub returns-then-length-body-clause-answer : goal.returns-then-length-body-clause-answer
+returns-then-length-body-clause-answer c = search body_answer_10
+
+pub returns-then-length-body-clause-left : goal.returns-then-length-body-clause-left
+returns-then-length-body-clause-left c = search body_left_10
+
+pub returns-clause-answer : goal.returns-clause-answer
+returns-clause-answer c = search (body_answer, c.shared_slice_known-1.given)
+
+pub returns-clause-left : goal.returns-clause-left
+returns-clause-left c = search (body_left, c.shared_slice_known-1.given)

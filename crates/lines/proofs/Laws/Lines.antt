@@ -7,7 +7,7 @@ use native.Mathlib.Numerals.{add-one, unary_clauses}
 use native.Mathlib.Omega.{arith}
 use lib.ListN.{drop, get_or, length, length-append, length-set, set, take}
 use lib.Seq.{append_snoc, set-append_seam, set_out, take_at, take-length, take-suc}
-use Rattle.lines.specs.Lines.{Put, behind, placed, spread}
+use Rattle.lines.specs.Lines.{Put, placed, spread}
 
 -- ---- places
 

@@ -1,7 +1,7 @@
 -- Reading what was written, and writing what was read. Assumes nothing.
-use mathlib.Core.Path.{◌≡◌, refl, sym, ap, ap₂, ◌∙◌, subst}
+use mathlib.Core.Path.{◌≡◌, refl, sym, ap, ap₂, ◌∙◌}
 use mathlib.Core.Bool.{Bool, true, false}
-use mathlib.Core.List.{List, [], ◌∷◌, ◌++◌, append_assoc}
+use mathlib.Core.List.{List, ◌∷◌, ◌++◌, append_assoc}
 use Prim.Native.Nat.{ℕ, suc, ◌+◌, ◌-◌, ◌<◌, ◌≤◌}
 use native.Mathlib.Omega.{arith}
 use borrow.Author.Tests.{eq-eqb, eqb-false, eqb-true, le-ltb, lt-ltb, ltb-false, ne_eqb}
@@ -14,11 +14,10 @@ use Rattle.steering.specs.Records.{Fits, body_length, body_of, kind_of, record_o
 use Rattle.steering.specs.Writing.{put_at, write_answer, write_body_answer, write_body_leaves, write_body_refusal, write_leaves, write_refusal}
 use Rattle.steering.specs.declared.reading.Reading.TheVariants.{Found}
 use Rattle.steering.specs.declared.records.Record.{Record}
-use Rattle.steering.specs.declared.writing.Written.{Written}
 use Rattle.steering.proofs.Laws.Complete.{body_length_lem, found_there, known, t}
 use Rattle.steering.proofs.Laws.Outcomes.{found_fits, record_fits}
 use Rattle.steering.proofs.Laws.Reading.{found}
-use Rattle.steering.proofs.Laws.Records.{Has, read_back}
+use Rattle.steering.proofs.Laws.Records.{read_back}
 use Rattle.steering.proofs.Laws.Tables.{begins}
 use Rattle.steering.proofs.Laws.Writing.{never_too_high}
 

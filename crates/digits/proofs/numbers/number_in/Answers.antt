@@ -1,6 +1,5 @@
 -- `number_in` meets its contract: the number of the digits so far goes on over those to come. Sixteen digits are below 10^16, so no
 -- step wraps. Assumes nothing.
-use Prim.Native.Nat.{◌-◌}
 use borrow.Author.Rules.{rules}
 use Rattle.digits.proofs.Laws.Numbers.{digit_fits, no_digit, number_begins, number_ends, number_goes_on, one_more, ten_fits, too_long, too_short}
 use Rattle.digits.proofs.numbers.number_in.Goals as goal

@@ -1,7 +1,7 @@
 -- `number_in` meets its contract: the number of the digits so far goes on over those to come. Sixteen digits are below 10^16, so no
 -- step wraps. Assumes nothing.
 use mathlib.Core.Path.{◌≡◌}
-use Prim.Native.Nat.{◌-◌, ◌<◌, ◌^◌, ◌≤◌}
+use Prim.Native.Nat.{◌<◌, ◌^◌, ◌≤◌}
 use lib.ListN.{drop, length}
 use Rattle.digits.specs.Numbers.{no_number, number_from, number_of}
 use Rattle.digits.proofs.numbers.number_in.Given as goal

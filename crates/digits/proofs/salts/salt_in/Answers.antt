@@ -1,5 +1,4 @@
 -- `salt_in` meets its contract: the bytes so far go on over the pairs to come. Assumes nothing.
-use Prim.Native.Nat.{◌-◌}
 use borrow.Author.Rules.{rules}
 use Rattle.digits.proofs.Laws.Salts.{no_high, no_low, no_salt_lem, salt_begins, salt_ends, salt_goes_on}
 use Rattle.digits.proofs.salts.salt_in.Goals as goal

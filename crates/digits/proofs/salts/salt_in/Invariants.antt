@@ -1,6 +1,6 @@
 -- `salt_in` meets its contract: the bytes so far go on over the pairs to come. Assumes nothing.
 use mathlib.Core.Path.{◌≡◌}
-use Prim.Native.Nat.{◌*◌, ◌-◌, ◌≤◌}
+use Prim.Native.Nat.{◌*◌, ◌≤◌}
 use lib.ListN.{drop, length, take}
 use Rattle.digits.specs.Salts.{no_salt, salt_from, salt_of}
 use Rattle.digits.proofs.salts.salt_in.Given as goal

@@ -1,5 +1,4 @@
 -- `same` meets its contract: the loop takes the bits together in which the bytes differ. Assumes nothing.
-use Prim.Native.Nat.{◌-◌}
 use borrow.Author.Rules.{rules}
 use Rattle.hmac.proofs.Laws.Same.{more_bits, no_bits, other_length, same_by_bits}
 use Rattle.hmac.proofs.comparison.same.Goals as goal

@@ -1,6 +1,6 @@
 -- `same` meets its contract: the loop takes the bits together in which the bytes differ. Assumes nothing.
 use mathlib.Core.Path.{◌≡◌}
-use Prim.Native.Nat.{◌-◌, ◌≤◌}
+use Prim.Native.Nat.{◌≤◌}
 use lib.ListN.{length}
 use Rattle.hmac.proofs.Laws.Same.{differing_bits}
 use Rattle.hmac.proofs.comparison.same.Given as goal

@@ -1,6 +1,5 @@
 -- `key_block` meets its contract: a long key is digested, any other is copied byte by byte. Assumes nothing.
 use mathlib.Core.Path.{refl}
-use Prim.Native.Nat.{◌-◌}
 use native.Mathlib.Omega.{arith}
 use borrow.Author.Rules.{rules}
 use Rattle.aes_round.proofs.Promises.{fill_none}

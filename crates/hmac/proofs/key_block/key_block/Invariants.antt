@@ -1,6 +1,6 @@
 -- `key_block` meets its contract: a long key is digested, any other is copied byte by byte. Assumes nothing.
 use mathlib.Core.Path.{◌≡◌}
-use Prim.Native.Nat.{◌-◌, ◌≤◌}
+use Prim.Native.Nat.{◌≤◌}
 use lib.ListN.{get_or, length, replicate}
 use Rattle.aes_round.proofs.Promises.{Filled}
 use Rattle.hmac.proofs.key_block.key_block.Given as goal

@@ -1,6 +1,5 @@
 -- `keyed` meets its contract: the loop fills the front of a block, which is then added. Assumes nothing.
 use mathlib.Core.Path.{refl}
-use Prim.Native.Nat.{◌-◌}
 use native.Mathlib.Omega.{arith}
 use borrow.Author.Rules.{rules}
 use Rattle.aes_round.proofs.Promises.{fill_none}

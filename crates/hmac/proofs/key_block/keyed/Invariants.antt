@@ -1,5 +1,5 @@
 -- `keyed` meets its contract: the loop fills the front of a block, which is then added. Assumes nothing.
-use Prim.Native.Nat.{◌-◌, ◌≤◌}
+use Prim.Native.Nat.{◌≤◌}
 use lib.ListN.{get_or, replicate}
 use Rattle.aes_round.specs.Bytes.{xor}
 use Rattle.aes_round.proofs.Promises.{Filled}

@@ -1,5 +1,4 @@
 -- `put` meets its contract: the bytes so far are put, and one more behind them. Assumes nothing.
-use Prim.Native.Nat.{◌-◌}
 use borrow.Author.Rules.{rules}
 use Rattle.lines.proofs.Laws.Lines.{bytes_all, bytes_next, put_length, put_nothing}
 use Rattle.lines.proofs.bytes.put.Goals as goal

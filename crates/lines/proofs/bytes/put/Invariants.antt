@@ -1,6 +1,6 @@
 -- `put` meets its contract: the bytes so far are put, and one more behind them. Assumes nothing.
 use mathlib.Core.Path.{◌≡◌}
-use Prim.Native.Nat.{◌-◌, ◌≤◌}
+use Prim.Native.Nat.{◌≤◌}
 use lib.ListN.{length, take}
 use Rattle.lines.specs.Lines.{Put}
 use Rattle.lines.proofs.bytes.put.Given as goal

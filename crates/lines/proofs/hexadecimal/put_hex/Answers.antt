@@ -1,5 +1,4 @@
 -- `put_hex` meets its contract: the digits of the bytes so far are put, and two more behind them. Assumes nothing.
-use Prim.Native.Nat.{◌-◌}
 use borrow.Author.Rules.{rules}
 use Rattle.lines.proofs.Laws.Hexadecimal.{digits_next}
 use Rattle.lines.proofs.Laws.Lines.{put_length, spread_all, spread_none}

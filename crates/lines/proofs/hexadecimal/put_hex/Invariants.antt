@@ -1,6 +1,6 @@
 -- `put_hex` meets its contract: the digits of the bytes so far are put, and two more behind them. Assumes nothing.
 use mathlib.Core.Path.{◌≡◌}
-use Prim.Native.Nat.{◌-◌, ◌≤◌}
+use Prim.Native.Nat.{◌≤◌}
 use lib.ListN.{length, take}
 use Rattle.lines.specs.Hexadecimal.{digits_of}
 use Rattle.lines.specs.Lines.{Put, spread}

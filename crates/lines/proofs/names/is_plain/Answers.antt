@@ -1,5 +1,4 @@
 -- `is_plain` meets its contract: the rest of the name decides. Assumes nothing.
-use Prim.Native.Nat.{◌-◌}
 use borrow.Author.Rules.{rules}
 use Rattle.lines.proofs.Laws.Names.{not_plain, plain, plain_on}
 use Rattle.lines.proofs.names.is_plain.Goals as goal

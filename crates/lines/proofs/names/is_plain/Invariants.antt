@@ -1,6 +1,6 @@
 -- `is_plain` meets its contract: the rest of the name decides. Assumes nothing.
 use mathlib.Core.Path.{◌≡◌}
-use Prim.Native.Nat.{◌-◌, ◌≤◌}
+use Prim.Native.Nat.{◌≤◌}
 use lib.ListN.{drop, length}
 use Rattle.lines.specs.Names.{is_plain}
 use Rattle.lines.proofs.names.is_plain.Given as goal

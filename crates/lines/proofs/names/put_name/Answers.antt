@@ -1,5 +1,4 @@
 -- `put_name` meets its contract: the name so far is put, and one more byte behind it. Assumes nothing.
-use Prim.Native.Nat.{◌-◌}
 use borrow.Author.Rules.{rules}
 use Rattle.lines.proofs.Laws.Lines.{put_length, spread_all, spread_next, spread_none}
 use Rattle.lines.proofs.names.put_name.Goals as goal

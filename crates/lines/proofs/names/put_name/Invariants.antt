@@ -1,6 +1,6 @@
 -- `put_name` meets its contract: the name so far is put, and one more byte behind it. Assumes nothing.
 use mathlib.Core.Path.{◌≡◌}
-use Prim.Native.Nat.{◌-◌, ◌≤◌}
+use Prim.Native.Nat.{◌≤◌}
 use lib.ListN.{length, take}
 use Rattle.lines.specs.Lines.{Put, spread}
 use Rattle.lines.specs.Names.{escape_of}

@@ -1,5 +1,4 @@
 -- `count` meets its contract. The loop's invariant: the count of all is that of the records passed and the rest. Assumes nothing.
-use Prim.Native.Nat.{◌-◌}
 use native.Mathlib.Omega.{arith}
 use Rattle.steering.proofs.Laws.Parsing.{count_end, count_next, count_start, count_stop}
 use Rattle.steering.proofs.Laws.Reading.{less_left}

@@ -1,0 +1,61 @@
+// Writing to the standard streams, and to a descriptor by its number.
+ghost use Rattle.std.specs.Prelude.{OnOk};
+ghost use Rattle.std.specs.Io.KnownBytes.{Appends};
+
+use super::numbers::{NO_DESCRIPTOR, NOT_WRITTEN, number_of};
+use std::fs::OpenOptions;
+use std::io::Write;
+
+// Writes all of the bytes, or stops at the first write that takes nothing or fails, when some of them may be written. Of no bytes it makes
+// no call. A write that a signal interrupts before it takes a byte is one that failed.
+pub fn write_all<W: Write>(to: &mut W, bytes: &[u8]) -> Result<(), i32>
+    ensures { OnOk result (Appends (W.contents to.old) (W.contents to.new) bytes.now) }
+{
+    let mut rest = bytes;
+    while !rest.is_empty() {
+        match to.write(rest) {
+            Ok(0) => return Err(NOT_WRITTEN),
+            Ok(n) => rest = &rest[n..],
+            Err(error) => return Err(number_of(error)),
+        }
+    }
+    Ok(())
+}
+
+// Writes to standard output.
+pub fn print(rt: &HostRuntime, bytes: &[u8]) -> Result<(), i32> {
+    write_all(&mut rt.stdout(), bytes)
+}
+
+// Writes to standard error.
+pub fn say(rt: &HostRuntime, bytes: &[u8]) -> Result<(), i32> {
+    write_all(&mut rt.stderr(), bytes)
+}
+
+// Writes to the descriptor of a number from 3 to 9, which is opened once more, by its name: std has no other way to one that it did not open.
+// What is a file is written behind its end, and not where the descriptor stands.
+pub fn write_to(rt: &HostRuntime, descriptor: i32, bytes: &[u8]) -> Result<(), i32> {
+    let Some(name) = descriptor_name(descriptor) else {
+        return Err(NO_DESCRIPTOR);
+    };
+    match OpenOptions::new().append(true).open(rt, name) {
+        Ok(file) => {
+            let mut opened = file;
+            write_all(&mut opened, bytes)
+        }
+        Err(error) => Err(number_of(error)),
+    }
+}
+
+fn descriptor_name(descriptor: i32) -> Option<&'static str> {
+    match descriptor {
+        3 => Some("/dev/fd/3"),
+        4 => Some("/dev/fd/4"),
+        5 => Some("/dev/fd/5"),
+        6 => Some("/dev/fd/6"),
+        7 => Some("/dev/fd/7"),
+        8 => Some("/dev/fd/8"),
+        9 => Some("/dev/fd/9"),
+        _ => None,
+    }
+}

@@ -1,7 +1,6 @@
 // A refusal in words: one line on standard error.
 ghost use Rattle.std.specs.Prelude.{◌<◌, length};
 
-use libc::STDERR_FILENO;
 use lines::{put, put_decimal, put_hex};
 use steering::Reading;
 
@@ -19,11 +18,11 @@ fn body_length(kind: u8) -> usize {
     }
 }
 
-fn say_too_long() {
-    io::write_all(STDERR_FILENO, b"list_table: the table is over 4096 bytes\n");
+fn say_too_long(rt: &HostRuntime) {
+    let _ = host::say(rt, b"list_table: the table is over 4096 bytes\n");
 }
 
-fn say_unknown(table: &[u8], place: usize)
+fn say_unknown(rt: &HostRuntime, table: &[u8], place: usize)
     requires { place < length table.now }
 {
     let body = place + 1;
@@ -37,10 +36,10 @@ fn say_unknown(table: &[u8], place: usize)
         spelled,
         b", which no record has; places count from 0, the table's first byte\n",
     );
-    io::write_all(STDERR_FILENO, &line[0..end]);
+    let _ = host::say(rt, &line[0..end]);
 }
 
-fn say_cut_short(table: &[u8], place: usize)
+fn say_cut_short(rt: &HostRuntime, table: &[u8], place: usize)
     requires { place < length table.now }
 {
     let body = place + 1;
@@ -59,24 +58,24 @@ fn say_cut_short(table: &[u8], place: usize)
         counted,
         b" of them; places count from 0, the table's first byte\n",
     );
-    io::write_all(STDERR_FILENO, &line[0..end]);
+    let _ = host::say(rt, &line[0..end]);
 }
 
-fn explain_record(table: &[u8], number: u8, place: usize)
+fn explain_record(rt: &HostRuntime, table: &[u8], number: u8, place: usize)
     requires { place < length table.now }
 {
     if number == 9 {
-        say_unknown(table, place);
+        say_unknown(rt, table, place);
     } else {
-        say_cut_short(table, place);
+        say_cut_short(rt, table, place);
     }
 }
 
 // Says why a table is refused by 8, 9 or 10. The place of the last two is in the table.
-pub(crate) fn explain(table: &[u8], number: u8, place: usize) {
+pub(crate) fn explain(rt: &HostRuntime, table: &[u8], number: u8, place: usize) {
     if number == 8 {
-        say_too_long();
+        say_too_long(rt);
     } else if place < table.len() {
-        explain_record(table, number, place);
+        explain_record(rt, table, number, place);
     }
 }

@@ -1,30 +1,29 @@
-// The lines of a table. Each function answers whether all was written.
+// The lines of a table. Each function answers the number of the error where something could not be written.
 ghost use Rattle.std.specs.Prelude.{◌<◌, ◌≤◌, length};
 
 use super::explaining::explain;
-use libc::STDOUT_FILENO;
 use lines::{put, put_decimal, put_hex};
 use steering::Reading;
 
-fn print_refused(number: u8, place: usize) -> bool {
+fn print_refused(rt: &HostRuntime, number: u8, place: usize) -> Result<(), i32> {
     let mut line = [0u8; 64];
     let named = put(&mut line, 0, b"refused ");
     let numbered = put_decimal(&mut line, named, number as u64);
     let at = put(&mut line, numbered, b" at ");
     let placed = put_decimal(&mut line, at, place as u64);
     let end = put(&mut line, placed, b"\n");
-    io::write_all(STDOUT_FILENO, &line[0..end])
+    host::print(rt, &line[0..end])
 }
 
-fn print_count(count: usize) -> bool {
+fn print_count(rt: &HostRuntime, count: usize) -> Result<(), i32> {
     let mut line = [0u8; 64];
     let named = put(&mut line, 0, b"records ");
     let counted = put_decimal(&mut line, named, count as u64);
     let end = put(&mut line, counted, b"\n");
-    io::write_all(STDOUT_FILENO, &line[0..end])
+    host::print(rt, &line[0..end])
 }
 
-fn print_record(table: &[u8], place: usize, next: usize) -> bool
+fn print_record(rt: &HostRuntime, table: &[u8], place: usize, next: usize) -> Result<(), i32>
     requires place_lt_next { place < next }
     requires next_in_bounds { next ≤ length table.now }
 {
@@ -36,53 +35,58 @@ fn print_record(table: &[u8], place: usize, next: usize) -> bool
     let before_body = put(&mut line, kind, b" ");
     let spelled = put_hex(&mut line, before_body, &table[body..next]);
     let end = put(&mut line, spelled, b"\n");
-    io::write_all(STDOUT_FILENO, &line[0..end])
+    host::print(rt, &line[0..end])
 }
 
-fn print_records(table: &[u8]) -> bool {
+fn print_records(rt: &HostRuntime, table: &[u8]) -> Result<(), i32> {
     let mut at = 0;
     loop {
         match steering::read_at(table, at) {
             Reading::Found { record: _, next } => {
-                if !print_record(table, at, next) {
-                    return false;
-                }
+                print_record(rt, table, at, next)?;
                 at = next;
             }
             Reading::End => {
-                return true;
+                return Ok(());
             }
             Reading::Refused {
                 number: _,
                 place: _,
             } => {
-                return true;
+                return Ok(());
             }
         }
     }
 }
 
 // The line of a refusal, and then that in words where it is asked for.
-fn refuse(table: &[u8], number: u8, place: usize, explains: bool) -> bool {
-    let is_written = print_refused(number, place);
-    if is_written && explains {
-        explain(table, number, place);
+fn refuse(
+    rt: &HostRuntime,
+    table: &[u8],
+    number: u8,
+    place: usize,
+    explains: bool,
+) -> Result<(), i32> {
+    print_refused(rt, number, place)?;
+    if explains {
+        explain(rt, table, number, place);
     }
-    is_written
+    Ok(())
 }
 
-fn list(table: &[u8], explains: bool) -> bool {
+fn list(rt: &HostRuntime, table: &[u8], explains: bool) -> Result<(), i32> {
     let counted = steering::count(table);
     let refused = counted.refusal;
     if refused != 0 {
-        return refuse(table, refused, counted.place, explains);
+        return refuse(rt, table, refused, counted.place, explains);
     }
-    print_records(table) && print_count(counted.count)
+    print_records(rt, table)?;
+    print_count(rt, counted.count)
 }
 
 // The table is the first n bytes.
-pub(crate) fn list_front(room: &[u8], n: usize, explains: bool) -> bool
+pub(crate) fn list_front(rt: &HostRuntime, room: &[u8], n: usize, explains: bool) -> Result<(), i32>
     requires { n ≤ length room.now }
 {
-    list(&room[0..n], explains)
+    list(rt, &room[0..n], explains)
 }

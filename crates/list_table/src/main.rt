@@ -1,6 +1,8 @@
 #![tactic(auto)]
 // Lists a steering table, from a file or from standard input: each record on its line, with its place, its kind and its body in hex, and
 // then the count; or `refused N at P` alone. Every line is one write.
+#![tactic(auto)]
+
 mod explaining;
 mod help;
 mod input;
@@ -17,38 +19,41 @@ use saying::say_why;
 use words::word;
 
 // What the words ask for, up to the first that is bad or that asks for help or the version.
-fn asked() -> Options {
-    let mut room = io::buffer();
+fn asked(rt: &HostRuntime) -> Options {
+    let mut room = [0u8; 4096];
     let mut options = defaults();
-    let count = os::arg_count();
+    let count = host::word_count(rt);
     let mut i = 1;
     while i < count && options.goes_on {
-        let n = word(i, &mut room);
-        options = options.take(i, &room[0..n]);
+        let n = word(rt, i, &mut room);
+        options = options.take(rt, i, &room[0..n]);
         i += 1;
     }
     options
 }
 
 // One byte more than the longest table: with it the table is refused, and nothing behind it is read.
-fn list_asked(options: Options) {
+fn list_asked(rt: &HostRuntime, options: Options) {
     let mut room = [0u8; 4097];
-    let input = read_word(options.file, &mut room);
-    if input.is_whole && !list_front(&room, input.size, options.explains) {
-        say_why(b"standard output");
+    let input = read_word(rt, options.file, &mut room);
+    if !input.is_whole {
+        return;
+    }
+    if let Err(error) = list_front(rt, &room, input.size, options.explains) {
+        say_why(rt, b"standard output", error);
     }
 }
 
-fn main() {
-    let options = asked();
+fn main(rt: HostRuntime) {
+    let options = asked(&rt);
     if options.is_bad {
         return;
     }
     if options.asks_help {
-        print_help();
+        print_help(&rt);
     } else if options.asks_version {
-        print_version();
+        print_version(&rt);
     } else {
-        list_asked(options);
+        list_asked(&rt, options);
     }
 }

@@ -1,7 +1,6 @@
 // A refusal in words: one line on standard error.
 ghost use Rattle.std.specs.Prelude.{◌<◌, length};
 
-use libc::STDERR_FILENO;
 use lines::{put, put_decimal, put_hex};
 use steering::Reading;
 
@@ -19,22 +18,19 @@ fn body_length(kind: u8) -> usize {
     }
 }
 
-fn say_bad_length(salt: usize) {
+fn say_bad_length(rt: &HostRuntime, salt: usize) {
     let mut line = [0u8; 128];
     let begun = put(&mut line, 0, b"fingerprint_table: the salt is ");
     let counted = put_decimal(&mut line, begun, salt as u64);
     let end = put(&mut line, counted, b" bytes and not 16\n");
-    io::write_all(STDERR_FILENO, &line[0..end]);
+    let _ = host::say(rt, &line[0..end]);
 }
 
-fn say_too_long() {
-    io::write_all(
-        STDERR_FILENO,
-        b"fingerprint_table: the table is over 4096 bytes\n",
-    );
+fn say_too_long(rt: &HostRuntime) {
+    let _ = host::say(rt, b"fingerprint_table: the table is over 4096 bytes\n");
 }
 
-fn say_unknown(table: &[u8], place: usize)
+fn say_unknown(rt: &HostRuntime, table: &[u8], place: usize)
     requires { place < length table.now }
 {
     let body = place + 1;
@@ -48,10 +44,10 @@ fn say_unknown(table: &[u8], place: usize)
         spelled,
         b", which no record has; places count from 0, the table's first byte, and not from the salt\n",
     );
-    io::write_all(STDERR_FILENO, &line[0..end]);
+    let _ = host::say(rt, &line[0..end]);
 }
 
-fn say_cut_short(table: &[u8], place: usize)
+fn say_cut_short(rt: &HostRuntime, table: &[u8], place: usize)
     requires { place < length table.now }
 {
     let body = place + 1;
@@ -70,26 +66,26 @@ fn say_cut_short(table: &[u8], place: usize)
         counted,
         b" of them; places count from 0, the table's first byte, and not from the salt\n",
     );
-    io::write_all(STDERR_FILENO, &line[0..end]);
+    let _ = host::say(rt, &line[0..end]);
 }
 
-fn explain_record(table: &[u8], number: u8, place: usize)
+fn explain_record(rt: &HostRuntime, table: &[u8], number: u8, place: usize)
     requires { place < length table.now }
 {
     if number == 9 {
-        say_unknown(table, place);
+        say_unknown(rt, table, place);
     } else {
-        say_cut_short(table, place);
+        say_cut_short(rt, table, place);
     }
 }
 
 // Says why a table under a salt is refused by 2, 8, 9 or 10. The place of the last two is in the table.
-pub(crate) fn explain(salt: &[u8], table: &[u8], number: u8, place: usize) {
+pub(crate) fn explain(rt: &HostRuntime, salt: &[u8], table: &[u8], number: u8, place: usize) {
     if number == 2 {
-        say_bad_length(salt.len());
+        say_bad_length(rt, salt.len());
     } else if number == 8 {
-        say_too_long();
+        say_too_long(rt);
     } else if place < table.len() {
-        explain_record(table, number, place);
+        explain_record(rt, table, number, place);
     }
 }

@@ -1,19 +1,19 @@
 // What the program says about itself, on standard output.
 use super::saying::say_why;
-use libc::STDOUT_FILENO;
 
-fn print(text: &[u8]) {
-    if !io::write_all(STDOUT_FILENO, text) {
-        say_why(b"standard output");
+fn print(rt: &HostRuntime, text: &[u8]) {
+    if let Err(error) = host::print(rt, text) {
+        say_why(rt, b"standard output", error);
     }
 }
 
-pub(crate) fn print_version() {
-    print(b"fingerprint_table (Bahmorist) 0.9.0\n");
+pub(crate) fn print_version(rt: &HostRuntime) {
+    print(rt, b"fingerprint_table (Bahmorist) 0.9.0\n");
 }
 
-pub(crate) fn print_help() {
+pub(crate) fn print_help(rt: &HostRuntime) {
     print(
+        rt,
         b"\
 usage: fingerprint_table [--explain] [-s SALT] [FILE]
 Prints the fingerprint of a steering table, its ECHO digest of 256 bits under a salt, as 64 hex

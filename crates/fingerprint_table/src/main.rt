@@ -17,61 +17,61 @@ use saying::say_why;
 use words::word;
 
 // What the words ask for, up to the first that is bad or that asks for help or the version.
-fn asked() -> Options {
-    let mut room = io::buffer();
+fn asked(rt: &HostRuntime) -> Options {
+    let mut room = [0u8; 4096];
     let mut options = defaults();
-    let count = os::arg_count();
+    let count = host::word_count(rt);
     let mut i = 1;
     while i < count && options.goes_on {
-        let n = word(i, &mut room);
-        options = options.take(i, &room[0..n]);
+        let n = word(rt, i, &mut room);
+        options = options.take(rt, i, &room[0..n]);
         i += 1;
     }
-    options.end()
+    options.end(rt)
 }
 
-// One byte more than the longest table: with it the table is refused, and nothing behind it is read. Answers false where the line was not
-// written.
-fn fingerprint_table(options: Options) -> bool {
+// One byte more than the longest table: with it the table is refused, and nothing behind it is read. Answers the number of the error where
+// the line was not written.
+fn fingerprint_table(rt: &HostRuntime, options: Options) -> Result<(), i32> {
     let mut room = [0u8; 4097];
-    let input = read_word(options.file, &mut room);
+    let input = read_word(rt, options.file, &mut room);
     if !input.is_whole {
-        return true;
+        return Ok(());
     }
-    print_under(&options.salt, &room, input.size, options.explains)
+    print_under(rt, &options.salt, &room, input.size, options.explains)
 }
 
 // The same, behind the salt.
-fn fingerprint_salted(options: Options) -> bool {
+fn fingerprint_salted(rt: &HostRuntime, options: Options) -> Result<(), i32> {
     let mut room = [0u8; 4113];
-    let input = read_word(options.file, &mut room);
+    let input = read_word(rt, options.file, &mut room);
     if !input.is_whole {
-        return true;
+        return Ok(());
     }
-    print_salted(&room, input.size, options.explains)
+    print_salted(rt, &room, input.size, options.explains)
 }
 
-fn fingerprint_asked(options: Options) {
-    let is_written = if options.has_salt {
-        fingerprint_table(options)
+fn fingerprint_asked(rt: &HostRuntime, options: Options) {
+    let written = if options.has_salt {
+        fingerprint_table(rt, options)
     } else {
-        fingerprint_salted(options)
+        fingerprint_salted(rt, options)
     };
-    if !is_written {
-        say_why(b"standard output");
+    if let Err(error) = written {
+        say_why(rt, b"standard output", error);
     }
 }
 
-fn main() {
-    let options = asked();
+fn main(rt: HostRuntime) {
+    let options = asked(&rt);
     if options.is_bad {
         return;
     }
     if options.asks_help {
-        print_help();
+        print_help(&rt);
     } else if options.asks_version {
-        print_version();
+        print_version(&rt);
     } else {
-        fingerprint_asked(options);
+        fingerprint_asked(&rt, options);
     }
 }

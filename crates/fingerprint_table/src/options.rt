@@ -1,6 +1,6 @@
 // The command line, taken word by word.
 use super::saying::{say_bad_salt, say_bad_word, say_no_salt, say_second_file};
-use super::words::is_dashed;
+use super::words::{is_dashed, is_same};
 use digits::salt_in;
 
 // What the words so far ask for, and what the next one is.
@@ -41,33 +41,33 @@ pub(crate) fn defaults() -> Options {
 
 impl Options {
     // The options with the word i, which is not 0. A bad one is said.
-    pub fn take(mut self, i: usize, word: &[u8]) -> Options {
+    pub fn take(mut self, rt: &HostRuntime, i: usize, word: &[u8]) -> Options {
         if self.wants_salt {
             self.wants_salt = false;
-            return self.take_salt(word);
+            return self.take_salt(rt, word);
         }
         if self.is_ended || !is_dashed(word) {
-            return self.take_file(i, word);
+            return self.take_file(rt, i, word);
         }
         if 2 <= word.len() && word[1] == b's' {
-            return self.take_salt_flag(&word[2..]);
+            return self.take_salt_flag(rt, &word[2..]);
         }
-        self.take_flag(word)
+        self.take_flag(rt, word)
     }
 
     // The salt stands behind its flag, or is the next word.
-    fn take_salt_flag(mut self, rest: &[u8]) -> Options {
+    fn take_salt_flag(mut self, rt: &HostRuntime, rest: &[u8]) -> Options {
         if rest.len() == 0 {
             self.wants_salt = true;
             return self;
         }
-        self.take_salt(rest)
+        self.take_salt(rt, rest)
     }
 
-    fn take_salt(mut self, word: &[u8]) -> Options {
+    fn take_salt(mut self, rt: &HostRuntime, word: &[u8]) -> Options {
         let given = salt_in(word);
         if !given.is_good {
-            say_bad_salt(word);
+            say_bad_salt(rt, word);
             self = self.with_bad_word();
         }
         let bytes = given.bytes;
@@ -76,29 +76,29 @@ impl Options {
         self
     }
 
-    fn take_flag(mut self, word: &[u8]) -> Options {
-        if check::same(word, b"--explain") {
+    fn take_flag(mut self, rt: &HostRuntime, word: &[u8]) -> Options {
+        if is_same(word, b"--explain") {
             self.explains = true;
-        } else if check::same(word, b"--") {
+        } else if is_same(word, b"--") {
             self.is_ended = true;
-        } else if check::same(word, b"-h") || check::same(word, b"--help") {
+        } else if is_same(word, b"-h") || is_same(word, b"--help") {
             self.asks_help = true;
             self.goes_on = false;
-        } else if check::same(word, b"--version") {
+        } else if is_same(word, b"--version") {
             self.asks_version = true;
             self.goes_on = false;
         } else {
-            say_bad_word(word);
+            say_bad_word(rt, word);
             self = self.with_bad_word();
         }
         self
     }
 
-    fn take_file(mut self, i: usize, word: &[u8]) -> Options {
+    fn take_file(mut self, rt: &HostRuntime, i: usize, word: &[u8]) -> Options {
         if self.file == 0 {
             self.file = i;
         } else {
-            say_second_file(word);
+            say_second_file(rt, word);
             self = self.with_bad_word();
         }
         self
@@ -111,9 +111,9 @@ impl Options {
     }
 
     // The options behind the last word. That a salt is still wanted is bad, and said.
-    pub fn end(mut self) -> Options {
+    pub fn end(mut self, rt: &HostRuntime) -> Options {
         if self.wants_salt {
-            say_no_salt();
+            say_no_salt(rt);
             self = self.with_bad_word();
         }
         self

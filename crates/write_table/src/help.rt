@@ -1,21 +1,23 @@
 // What the program says about itself, on standard output. Each function answers whether all was written.
 use super::saying::say_why;
-use libc::STDOUT_FILENO;
 
-fn print(text: &[u8]) -> bool {
-    let is_written = io::write_all(STDOUT_FILENO, text);
-    if !is_written {
-        say_why(b"standard output");
+fn print(rt: &HostRuntime, text: &[u8]) -> bool {
+    match host::print(rt, text) {
+        Ok(()) => true,
+        Err(error) => {
+            say_why(rt, b"standard output", error);
+            false
+        }
     }
-    is_written
 }
 
-pub(crate) fn print_version() -> bool {
-    print(b"write_table (Bahmorist) 0.9.0\n")
+pub(crate) fn print_version(rt: &HostRuntime) -> bool {
+    print(rt, b"write_table (Bahmorist) 0.9.0\n")
 }
 
-pub(crate) fn print_help() -> bool {
+pub(crate) fn print_help(rt: &HostRuntime) -> bool {
     print(
+        rt,
         b"\
 usage: write_table [FILE]
 Makes the steering table of the lines in FILE, as list_table prints them, and writes its bytes to

@@ -8,6 +8,7 @@ ghost use Rattle.std.specs.Prelude.{◌≡◌, ◌+◌, ◌≤◌, length};
 ghost use Rattle.write_table.specs.Line.{alone, count_line, digits_in, is_framed, line_of, record_behind, record_in, same_of};
 
 use super::hexadecimal::pairs_in;
+use super::words::is_same;
 use lines::{put, put_decimal};
 use steering::{Reading, Record};
 
@@ -114,7 +115,7 @@ fn is_count(line: &[u8], count: usize) -> bool
     let mut right = [0u8; 28];
     let named = put(&mut right, 0, b"records ");
     let end = put_decimal(&mut right, named, count as u64);
-    check::same(line, &right[0..end])
+    is_same(line, &right[0..end])
 }
 
 // What a line says behind so many records.

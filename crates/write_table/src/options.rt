@@ -1,6 +1,6 @@
 // The command line, taken word by word.
 use super::saying::{say_bad_word, say_second_file};
-use super::words::is_dashed;
+use super::words::{is_dashed, is_same};
 
 // What the words so far ask for.
 #[derive(Clone, Copy)]
@@ -32,39 +32,39 @@ pub(crate) fn defaults() -> Options {
 
 impl Options {
     // The options with the word i, which is not 0. A bad one is said.
-    pub fn take(mut self, i: usize, word: &[u8]) -> Options {
+    pub fn take(mut self, rt: &HostRuntime, i: usize, word: &[u8]) -> Options {
         if self.is_ended || !is_dashed(word) {
-            return self.take_file(i, word);
+            return self.take_file(rt, i, word);
         }
-        if check::same(word, b"--") {
+        if is_same(word, b"--") {
             self.is_ended = true;
-        } else if check::same(word, b"-h") || check::same(word, b"--help") {
+        } else if is_same(word, b"-h") || is_same(word, b"--help") {
             self.asks_help = true;
             self.goes_on = false;
-        } else if check::same(word, b"--version") {
+        } else if is_same(word, b"--version") {
             self.asks_version = true;
             self.goes_on = false;
         } else {
-            return self.take_verdict(word);
+            return self.take_verdict(rt, word);
         }
         self
     }
 
-    fn take_file(mut self, i: usize, word: &[u8]) -> Options {
+    fn take_file(mut self, rt: &HostRuntime, i: usize, word: &[u8]) -> Options {
         if self.file == 0 {
             self.file = i;
         } else {
-            say_second_file(word);
+            say_second_file(rt, word);
             self = self.with_bad_word();
         }
         self
     }
 
     // `--verdict-fd=N`, N from 3 to 9. The first such word counts: it is the one of whoever waits for the verdict.
-    fn take_verdict(mut self, word: &[u8]) -> Options {
+    fn take_verdict(mut self, rt: &HostRuntime, word: &[u8]) -> Options {
         let fd = descriptor(word);
         if fd < 0 {
-            say_bad_word(word);
+            say_bad_word(rt, word);
             return self.with_bad_word();
         }
         if self.verdict < 0 {
@@ -85,7 +85,7 @@ fn descriptor(word: &[u8]) -> i32 {
     if word.len() != 14 {
         return -1;
     }
-    if !check::same(&word[0..13], b"--verdict-fd=") {
+    if !is_same(&word[0..13], b"--verdict-fd=") {
         return -1;
     }
     let digit = word[13];

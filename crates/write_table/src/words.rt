@@ -1,13 +1,13 @@
 // Words of the command line.
-ghost use Rattle.std.specs.Prelude.{◌≤◌, length};
+ghost use Rattle.std.specs.Prelude.{◌≡◌, ◌≤◌, length};
+ghost use Rattle.write_table.specs.Line.{same_of};
 
 // Puts the word i at the front of `room` and answers its length. Of a word that is longer than the room only the front comes, and that will
 // do: no option or path is so long.
-pub(crate) fn word(i: usize, room: &mut [u8]) -> usize
+pub(crate) fn word(rt: &HostRuntime, i: usize, room: &mut [u8]) -> usize
     ensures { result ≤ length room.new }
 {
-    let n = os::arg(i, room);
-    if os::errno() == 0 { n } else { room.len() }
+    host::word(rt, i, room)
 }
 
 // Whether the word begins with a dash and is not the dash alone, which names standard input.
@@ -16,4 +16,11 @@ pub(crate) fn is_dashed(word: &[u8]) -> bool {
         return false;
     }
     word[0] == b'-'
+}
+
+// Whether two texts have the same bytes.
+pub(crate) fn is_same(a: &[u8], b: &[u8]) -> bool
+    ensures { result ≡ same_of a.now b.now }
+{
+    a == b
 }

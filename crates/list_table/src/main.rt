@@ -1,7 +1,6 @@
 #![tactic(auto)]
 // Lists a steering table, from a file or from standard input: each record on its line, with its place, its kind and its body in hex, and
 // then the count; or `refused N at P` alone. Every line is one write.
-#![tactic(auto)]
 
 mod explaining;
 mod help;

@@ -1,6 +1,6 @@
 -- A wrong program of must-fail/ changes a definition, since the code could be made so only by a change of its shape. A point at which the definition
 -- and the changed one, which is written out, differ. Assumes nothing.
-use mathlib.Core.Path.{◌≡◌, ◌∙◌, sym}
+use mathlib.Core.Path.{◌≡◌}
 use mathlib.Core.Bool.{cond}
 use mathlib.Core.List.{List, [], ◌∷◌}
 use Prim.Native.Nat.{ℕ}

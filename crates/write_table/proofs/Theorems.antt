@@ -5,7 +5,7 @@ use mathlib.Core.List.{List}
 use Prim.Native.Nat.{ℕ, ◌<◌, ◌≤◌}
 use lib.ListN.{get_or, length}
 use Rattle.steering.specs.Numbers.{AreBytes}
-use Rattle.steering.specs.Parsing.{AllFit, accepted, parse, table_of}
+use Rattle.steering.specs.Parsing.{accepted, parse, table_of}
 use Rattle.steering.specs.Records.{Fits}
 use Rattle.steering.specs.declared.records.Record.{Record as TableRecord}
 use Rattle.steering.proofs.Promises.{table_is_accepted}

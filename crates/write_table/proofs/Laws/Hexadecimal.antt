@@ -7,8 +7,8 @@ use native.Mathlib.Numerals.{add-one}
 use native.Mathlib.Omega.{arith}
 use borrow.Author.Tests.{eqb-false, eqb-true, le-leb, le-ltb, leb-true, lt-leb, lt-ltb}
 use lib.Dec.{eqb, leb}
-use lib.ListN.{drop, get_or, length, length-append, length-drop, length-take, set, take}
-use lib.Seq.{drop-cons, drop-length, sets, take-suc}
+use lib.ListN.{drop, get_or, length, set}
+use lib.Seq.{drop-cons, drop-length, sets}
 use Rattle.digits.specs.Hexadecimal.{nibble_of}
 use Rattle.steering.specs.Numbers.{AreBytes}
 use Rattle.write_table.specs.Hexadecimal.{is_hex, pairs_of, value_of}

@@ -1,13 +1,13 @@
 -- What a line says, by the tests that led there. Assumes nothing.
-use mathlib.Core.Path.{◌≡◌, ◌∙◌, ap, refl, subst, sym}
-use mathlib.Core.Bool.{Bool, true, false, cond, true≢false, ◌&&◌}
+use mathlib.Core.Path.{◌≡◌, ◌∙◌, ap, refl, sym}
+use mathlib.Core.Bool.{Bool, true, false, true≢false}
 use mathlib.Core.List.{List, [], ◌∷◌, ◌++◌}
-use Prim.Native.Nat.{ℕ, suc, ◌+◌, ◌*◌, ◌-◌, ◌/◌, ◌^◌, ◌<◌, ◌≤◌}
+use Prim.Native.Nat.{ℕ, suc, ◌+◌, ◌*◌, ◌-◌, ◌/◌, ◌<◌, ◌≤◌}
 use native.Mathlib.Numerals.{add-one}
 use native.Mathlib.Omega.{arith}
-use borrow.Author.Tests.{eq-eqb, eqb-false, eqb-true, le-leb, le-ltb, lt-leb, lt-ltb, ltb-false, ltb-true, ne_eqb}
-use lib.Dec.{eqb, leb, ltb}
-use lib.ListN.{drop, get_or, length, length-append, length-drop, length-take, replicate, take}
+use borrow.Author.Tests.{eq-eqb, eqb-true, le-leb, le-ltb, lt-leb, lt-ltb, ltb-false, ne_eqb}
+use lib.Dec.{eqb, ltb}
+use lib.ListN.{drop, get_or, length, length-append, length-drop, length-take, take}
 use lib.Seq.{drop-cons, drop-length, sets, sets-eq, take_all, take_at}
 use Rattle.lines.specs.Decimal.{decimal_of}
 use Rattle.lines.specs.Lines.{Put}
@@ -20,7 +20,7 @@ use Rattle.steering.proofs.Promises.{found_short}
 use Rattle.write_table.specs.declared.line.Line.{Line}
 use Rattle.write_table.specs.declared.line.Line.TheVariants.{Count, Record, Unreadable}
 use Rattle.write_table.specs.Hexadecimal.{is_hex, pairs_of}
-use Rattle.write_table.specs.Line.{alone, count_line, digits_in, hex_behind, is_framed, line_of, only_record, record_behind, record_in, same_of}
+use Rattle.write_table.specs.Line.{alone, count_line, digits_in, hex_behind, is_framed, line_of, record_behind, record_in, same_of}
 use Rattle.write_table.proofs.Laws.Hexadecimal.{hex_even, hex_front, pairs_front}
 
 -- ---- the place
@@ -242,20 +242,12 @@ same_equal (x ∷ xs) (y ∷ ys) h = by_head (eqb x y) refl (same_equal xs ys)
     by_head false e f = absurd (true≢false (sym (simp e at h)))
 
 -- an answer that is yes exactly where two texts are equal
-same_exactly : (a b : List ℕ) (r : Bool) → (r ≡ true → a ≡ b) → (a ≡ b → r ≡ true) → r ≡ same_of a b
-same_exactly a b true f g = sym (ap (λ (c : List ℕ). same_of a c) (sym (f refl)) ∙ same_self a)
-same_exactly a b false f g = by (same_of a b) refl
-  where
-    by : (t : Bool) → same_of a b ≡ t → false ≡ same_of a b
-    by true p = absurd (true≢false (sym (g (same_equal a b p))))
-    by false p = sym p
-
 pub count_compared : (room one two line : List ℕ) (i r count : ℕ) (g : Bool)
     → Put room 0 (114 ∷ 101 ∷ 99 ∷ 111 ∷ 114 ∷ 100 ∷ 115 ∷ 32 ∷ []) one i → Put one i (decimal_of count) two r → length room ≡ 28
-    → (g ≡ true → line ≡ take (r - 0) two) × (line ≡ take (r - 0) two → g ≡ true) → g ≡ same_of line (count_line count)
+    → g ≡ same_of line (take (r - 0) two) → g ≡ same_of line (count_line count)
 count_compared room one two line i r count g p q l f =
     let all : r - 0 ≡ r = omega arith in
     let text = put_join room 0 _ one i (decimal_of count) two r p q in
     let stands : take (r - 0) two ≡ count_line count =
     ap (λ (k : ℕ). take k two) all ∙ put_stands room (count_line count) two r text (omega (arith, few_digits count)) in
-    rw (← stands) (same_exactly line (take (r - 0) two) g f.0 f.1)
+    f ∙ ap (same_of line) stands

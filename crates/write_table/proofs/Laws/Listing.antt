@@ -1,14 +1,13 @@
 -- The lister's lines are read as its records. Assumes nothing.
 use mathlib.Core.Path.{◌≡◌, ◌∙◌, ap, ap₂, refl, subst, sym}
-use mathlib.Core.Bool.{Bool, true, false, cond, not, ◌&&◌}
+use mathlib.Core.Bool.{Bool, true, false, not, ◌&&◌}
 use mathlib.Core.List.{List, [], ◌∷◌, ◌++◌, append_assoc, append-nil}
 use Prim.Native.Nat.{ℕ, zero, suc, ◌+◌, ◌*◌, ◌-◌, ◌/◌, ◌%◌, ◌<◌, ◌≤◌}
 use native.Mathlib.Omega.{arith}
-use borrow.Author.Tests.{eq-eqb, le-leb, le-ltb, leb-true, lt-leb, lt-ltb, ltb-false, ltb-true, ne_eqb}
+use borrow.Author.Tests.{eq-eqb, le-leb, le-ltb, leb-true, lt-leb, ltb-false, ltb-true, ne_eqb}
 use lib.Dec.{eqb, leb, ltb}
 use lib.ListN.{drop, get_or, length, length-append, take}
-use lib.Seq.{drop_at, get_or-append-add, get_or_at, take_at}
-use Rattle.digits.specs.Hexadecimal.{nibble_of}
+use lib.Seq.{drop_at, get_or-append-add, get_or_at}
 use Rattle.digits.proofs.Promises as digits
 use Rattle.lines.specs.Decimal.{decimal_of}
 use Rattle.lines.specs.Hexadecimal.{digit_of, digits_of}
@@ -16,14 +15,13 @@ use Rattle.lines.specs.Lines.{spread}
 use Rattle.lines.proofs.Promises.{decimal_digits, few_digits, some_digit, spread_cons, spread_nil}
 use Rattle.steering.specs.Numbers.{AreBytes}
 use Rattle.steering.specs.Parsing.{AllFit, table_of}
-use Rattle.steering.specs.Reading.{read_at}
 use Rattle.steering.specs.Records.{Fits, body_of, kind_of}
 use Rattle.steering.specs.declared.records.Record.{Record as TableRecord}
 use Rattle.steering.proofs.Promises.{alone_is_read, least_body, record_bytes}
 use Rattle.write_table.specs.declared.line.Line.{Line}
 use Rattle.write_table.specs.declared.line.Line.TheVariants.{Count, Record, Unreadable}
 use Rattle.write_table.specs.Hexadecimal.{is_hex, pairs_of, value_of}
-use Rattle.write_table.specs.Line.{alone, count_line, digits_in, hex_behind, is_framed, line_of, only_record, record_behind, record_in, same_of}
+use Rattle.write_table.specs.Line.{alone, count_line, digits_in, hex_behind, is_framed, line_of, record_behind, record_in, same_of}
 use Rattle.write_table.specs.Listing.{lines_from, listing_of, record_line}
 use Rattle.write_table.specs.Text.{Text, bad_line, go_on, is_nil, table, text_from, text_of}
 use Rattle.write_table.proofs.Laws.Hexadecimal.{hex_more}

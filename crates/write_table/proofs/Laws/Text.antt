@@ -1,5 +1,5 @@
 -- A text, line by line, and the room that its records are put into. Assumes nothing.
-use mathlib.Core.Path.{◌≡◌, ◌∙◌, ap, ap₂, refl, sym}
+use mathlib.Core.Path.{◌≡◌, ◌∙◌, ap, refl, sym}
 use mathlib.Core.Bool.{Bool, true, false, cond, not, true≢false, ◌&&◌}
 use mathlib.Core.List.{List, [], ◌∷◌, ◌++◌}
 use Prim.Native.Nat.{ℕ, suc, ◌+◌, ◌-◌, ◌<◌, ◌≤◌}
@@ -25,7 +25,7 @@ use Rattle.write_table.specs.declared.text.Step.{Step}
 use Rattle.write_table.specs.Hexadecimal.{is_hex, pairs_of}
 use Rattle.write_table.specs.Line.{alone, count_line, digits_in, hex_behind, is_framed, line_of, only_record, record_behind, record_in, same_of}
 use Rattle.write_table.specs.Step.{bad_at, step_leaves, step_of}
-use Rattle.write_table.specs.Text.{Text, bad_line, bytes_made, go_on, is_nil, made_of, table, text_from, text_of}
+use Rattle.write_table.specs.Text.{Text, bad_line, bytes_made, go_on, is_nil, made_of, text_from, text_of}
 use Rattle.write_table.proofs.Laws.Hexadecimal.{pairs_bytes}
 
 -- ---- the record of a line fits its fields

@@ -8,7 +8,6 @@
 ghost use Rattle.std.specs.Prelude.{◌≤◌, ◌+◌, ◌*◌, ◌<◌, ◌≡◌, length};
 
 use echo::{Mode, Session};
-use libc::{STDIN_FILENO, STDOUT_FILENO};
 use lines::{put, put_decimal, put_hex};
 
 fn wide(x: u8) -> u64
@@ -42,21 +41,21 @@ fn fill(message: &mut [u8], seed: u8)
     }
 }
 
-fn print_refused(number: u8) {
+fn print_refused(rt: &HostRuntime, number: u8) {
     let mut line = [0u8; 32];
     let named = put(&mut line, 0, b"refused ");
     let numbered = put_decimal(&mut line, named, number as u64);
     let end = put(&mut line, numbered, b"\n");
-    io::write_all(STDOUT_FILENO, &line[0..end]);
+    let _ = host::print(rt, &line[0..end]);
 }
 
-fn print_digest(digest: &[u8], size: usize)
+fn print_digest(rt: &HostRuntime, digest: &[u8], size: usize)
     requires { size ≤ length digest.now }
 {
     let mut line = [0u8; 129];
     let spelled = put_hex(&mut line, 0, &digest[0..size]);
     let end = put(&mut line, spelled, b"\n");
-    io::write_all(STDOUT_FILENO, &line[0..end]);
+    let _ = host::print(rt, &line[0..end]);
 }
 
 // Where a piece of k bytes from `at` on ends in a message of n bytes.
@@ -217,7 +216,7 @@ fn digest_in(case: &[u8], end: usize, room: &[u8], n: usize, unused: u8, out: &m
     digest_of_bits(mode, bits, &case[16..end], room, n, count, k, out)
 }
 
-fn run(case: &[u8])
+fn run(rt: &HostRuntime, case: &[u8])
     requires { length case.now ≡ 32 }
 {
     let bits = short(case, 0);
@@ -236,25 +235,26 @@ fn run(case: &[u8])
     clear_last(&mut room, n, unused);
     let refusal = digest_in(case, salt_end, &room, n, unused, &mut out);
     if refusal != 0 {
-        print_refused(refusal);
+        print_refused(rt, refusal);
         return;
     }
     let end = bits / 8;
     if end <= 64 {
-        print_digest(&out, end);
+        print_digest(rt, &out, end);
     }
 }
 
 // A proved loop has to end, and nothing says that the input does: the turns count down from a number that no run uses up.
-fn main() {
+fn main(rt: HostRuntime) {
+    let mut input = host::standard_input(&rt);
     let mut case = [0u8; 32];
     let mut turns = u64::MAX;
     while 0 < turns {
-        let n = io::read_full(STDIN_FILENO, &mut case);
+        let n = host::read_full(&mut input, &mut case);
         if n < 32 {
             return;
         }
-        run(&case);
+        run(&rt, &case);
         turns -= 1;
     }
 }

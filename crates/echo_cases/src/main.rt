@@ -9,7 +9,6 @@
 ghost use Rattle.std.specs.Prelude.{◌≤◌, ◌+◌, ◌<◌, ◌≡◌, length};
 
 use echo::Mode;
-use libc::{STDIN_FILENO, STDOUT_FILENO};
 use lines::{put, put_decimal, put_hex};
 
 fn wide(x: u8) -> u64
@@ -39,13 +38,13 @@ fn long(bytes: &[u8], at: usize) -> u64
     value
 }
 
-fn print(refusal: u8, bytes: &[u8]) {
+fn print(rt: &HostRuntime, refusal: u8, bytes: &[u8]) {
     let mut line = [0u8; 600];
     let numbered = put_decimal(&mut line, 0, refusal as u64);
     let spaced = put(&mut line, numbered, b" ");
     let spelled = put_hex(&mut line, spaced, bytes);
     let end = put(&mut line, spelled, b"\n");
-    io::write_all(STDOUT_FILENO, &line[0..end]);
+    let _ = host::print(rt, &line[0..end]);
 }
 
 // Calls the routine of a kind on the first `end` bytes of `a`.
@@ -99,7 +98,7 @@ fn apply_wide(
     }
 }
 
-fn run(case: &[u8], high: u64)
+fn run(rt: &HostRuntime, case: &[u8], high: u64)
     requires { length case.now ≡ 545 }
 {
     let salt_end = 15 + wide(case[1]) as usize;
@@ -125,32 +124,33 @@ fn run(case: &[u8], high: u64)
     let counter = long(case, 7);
     if kind < 6 {
         let refusal = apply(kind, &mut a, a_end, block, count, counter, salt);
-        print(refusal, &a);
+        print(rt, refusal, &a);
         return;
     }
     let refusal = apply_wide(kind, &mut a, a_end, block, count, counter, high, salt);
-    print(refusal, &a);
+    print(rt, refusal, &a);
 }
 
 // A proved loop has to end, and nothing says that the input does: the turns count down from a number that no run uses up.
-fn main() {
+fn main(rt: HostRuntime) {
+    let mut input = host::standard_input(&rt);
     let mut case = [0u8; 545];
     let mut turns = u64::MAX;
     while 0 < turns {
-        let n = io::read_full(STDIN_FILENO, &mut case);
+        let n = host::read_full(&mut input, &mut case);
         if n < 545 {
             return;
         }
         let mut high: u64 = 0;
         if 6 <= case[0] {
             let mut upper = [0u8; 8];
-            let m = io::read_full(STDIN_FILENO, &mut upper);
+            let m = host::read_full(&mut input, &mut upper);
             if m < 8 {
                 return;
             }
             high = long(&upper, 0);
         }
-        run(&case, high);
+        run(&rt, &case, high);
         turns -= 1;
     }
 }

@@ -4,7 +4,6 @@
 // the first.
 ghost use Rattle.std.specs.Prelude.{◌<◌, ◌≡◌, length};
 
-use libc::{STDIN_FILENO, STDOUT_FILENO};
 use lines::{put, put_hex};
 
 // The number that a hex digit stands for.
@@ -31,35 +30,35 @@ fn line(text: &[u8], n: usize) -> [u8; 16]
     word
 }
 
-fn print(word: [u8; 16]) {
+fn print(rt: &HostRuntime, word: [u8; 16]) {
     let mut line = [0u8; 33];
     let spelled = put_hex(&mut line, 0, &word);
     let end = put(&mut line, spelled, b"\n");
-    io::write_all(STDOUT_FILENO, &line[0..end]);
+    let _ = host::print(rt, &line[0..end]);
 }
 
-fn run(text: &[u8])
+fn run(rt: &HostRuntime, text: &[u8])
     requires { length text.now ≡ 330 }
 {
     let mut word = line(text, 0);
     for n in 1..10 {
         let after = aes_round::round(word, line(text, n));
-        print(after);
+        print(rt, after);
         word = after;
     }
     for n in 1..10 {
         let before = aes_round::round_back(word, line(text, 10 - n));
-        print(before);
+        print(rt, before);
         word = before;
     }
 }
 
-fn main() {
+fn main(rt: HostRuntime) {
     let mut text = [0u8; 330];
-    let n = io::read_full(STDIN_FILENO, &mut text);
+    let n = host::read_full(&mut host::standard_input(&rt), &mut text);
     if n < 330 {
-        io::write_all(STDOUT_FILENO, b"short input\n");
+        let _ = host::print(&rt, b"short input\n");
         return;
     }
-    run(&text);
+    run(&rt, &text);
 }

@@ -13,7 +13,7 @@
 ghost use Rattle.std.specs.Prelude.{◌≤◌, ◌+◌, ◌<◌, ◌≡◌, length};
 
 use echo::{Answer, Mode, Session};
-use libc::{STDIN_FILENO, STDOUT_FILENO};
+use host::Source;
 use lines::{put, put_decimal, put_hex};
 
 fn wide(x: u8) -> u64
@@ -171,57 +171,57 @@ fn put_answer(line: &mut [u8], answer: Answer, form: Form) -> usize
     put_rooms(line, taken, session, form.all)
 }
 
-fn print_answer(answer: Answer, form: Form) {
+fn print_answer(rt: &HostRuntime, answer: Answer, form: Form) {
     let mut line = [0u8; 1024];
     let answered = put_answer(&mut line, answer, form);
     let end = put(&mut line, answered, b"\n");
-    io::write_all(STDOUT_FILENO, &line[0..end]);
+    let _ = host::print(rt, &line[0..end]);
 }
 
 // The answer, and the room that was lent.
-fn print_with_room(answer: Answer, room: &[u8], form: Form) {
+fn print_with_room(rt: &HostRuntime, answer: Answer, room: &[u8], form: Form) {
     let mut line = [0u8; 2048];
     let answered = put_answer(&mut line, answer, form);
     let roomed = put_bytes(&mut line, answered, room);
     let end = put(&mut line, roomed, b"\n");
-    io::write_all(STDOUT_FILENO, &line[0..end]);
+    let _ = host::print(rt, &line[0..end]);
 }
 
 // Adds the first n bytes of the room.
-fn add(session: Session, room: &[u8], n: usize, form: Form)
+fn add(rt: &HostRuntime, session: Session, room: &[u8], n: usize, form: Form)
     requires { n ≤ length room.now }
 {
-    print_answer(session.add(&room[0..n]), form);
+    print_answer(rt, session.add(&room[0..n]), form);
 }
 
 // The same, of which so many bits count.
-fn add_bits(session: Session, room: &[u8], n: usize, count: u64, form: Form)
+fn add_bits(rt: &HostRuntime, session: Session, room: &[u8], n: usize, count: u64, form: Form)
     requires { n ≤ length room.now }
 {
-    print_answer(session.add_bits(&room[0..n], count), form);
+    print_answer(rt, session.add_bits(&room[0..n], count), form);
 }
 
 // Lends the room, and prints what is in it afterwards.
-fn read(session: Session, room: &mut [u8], form: Form) {
+fn read(rt: &HostRuntime, session: Session, room: &mut [u8], form: Form) {
     let answer = session.read(room);
-    print_with_room(answer, room, form);
+    print_with_room(rt, answer, room, form);
 }
 
 // Lends the first n bytes of a room that is the case's.
-fn read_into(session: Session, case: &[u8], n: usize, form: Form)
+fn read_into(rt: &HostRuntime, session: Session, case: &[u8], n: usize, form: Form)
     requires case_len { length case.now ≡ 642 }
     requires n_bound { n ≤ 255 }
 {
     let mut room = [0u8; 255];
     take(case, 387, &mut room);
-    read(session, &mut room[0..n], form);
+    read(rt, session, &mut room[0..n], form);
 }
 
-fn tell(session: Session) {
+fn tell(rt: &HostRuntime, session: Session) {
     if session.is_session() {
-        io::write_all(STDOUT_FILENO, b"yes\n");
+        let _ = host::print(rt, b"yes\n");
     } else {
-        io::write_all(STDOUT_FILENO, b"no\n");
+        let _ = host::print(rt, b"no\n");
     }
 }
 
@@ -232,18 +232,18 @@ fn at_most(limit: usize, n: usize) -> usize
 }
 
 // Opens with the first n bytes of the salt, at most all of them.
-fn open(mode: Mode, bits: u64, salt: &[u8], n: usize, all: bool) {
+fn open(rt: &HostRuntime, mode: Mode, bits: u64, salt: &[u8], n: usize, all: bool) {
     let end = at_most(salt.len(), n);
     let form = Form {
         all: all,
         in_bits: false,
         given: 0,
     };
-    print_answer(Session::open(mode, bits, &salt[0..end]), form);
+    print_answer(rt, Session::open(mode, bits, &salt[0..end]), form);
 }
 
 // Tasks 1 to 7.
-fn by_bytes(case: &[u8])
+fn by_bytes(rt: &HostRuntime, case: &[u8])
     requires { length case.now ≡ 642 }
 {
     let task = case[0];
@@ -255,18 +255,25 @@ fn by_bytes(case: &[u8])
         given: long(case, 10),
     };
     if task == 1 || task == 5 {
-        add(session, &case[387..642], n, form);
+        add(rt, session, &case[387..642], n, form);
     } else if task == 2 || task == 6 {
-        read_into(session, case, n, form);
+        read_into(rt, session, case, n, form);
     } else if task == 3 {
-        tell(session);
+        tell(rt, session);
     } else {
-        open(mode_of(case[386]), session.bits, &case[18..34], n, form.all);
+        open(
+            rt,
+            mode_of(case[386]),
+            session.bits,
+            &case[18..34],
+            n,
+            form.all,
+        );
     }
 }
 
 // Tasks from 8 on, with the bit count of the piece.
-fn by_bits(case: &[u8], count: u64)
+fn by_bits(rt: &HostRuntime, case: &[u8], count: u64)
     requires { length case.now ≡ 642 }
 {
     let task = case[0];
@@ -278,43 +285,44 @@ fn by_bits(case: &[u8], count: u64)
         given: 0,
     };
     if task == 8 {
-        add_bits(session, &case[387..642], n, count, form);
+        add_bits(rt, session, &case[387..642], n, count, form);
     } else if task == 9 {
-        read_into(session, case, n, form);
+        read_into(rt, session, case, n, form);
     } else if task == 10 {
-        tell(session);
+        tell(rt, session);
     } else {
-        add(session, &case[387..642], n, form);
+        add(rt, session, &case[387..642], n, form);
     }
 }
 
 // The case, with what stands behind it from task 8 on; false where the input ends within that.
-fn run(case: &[u8]) -> bool
+fn run(rt: &HostRuntime, input: &mut Source, case: &[u8]) -> bool
     requires { length case.now ≡ 642 }
 {
     if case[0] < 8 {
-        by_bytes(case);
+        by_bytes(rt, case);
         return true;
     }
     let mut count = [0u8; 8];
-    let n = io::read_full(STDIN_FILENO, &mut count);
+    let n = host::read_full(input, &mut count);
     if n < 8 {
         return false;
     }
-    by_bits(case, long(&count, 0));
+    by_bits(rt, case, long(&count, 0));
     true
 }
 
 // A proved loop has to end, and nothing says that the input does: the turns count down from a number that no run uses up.
-fn main() {
+fn main(rt: HostRuntime) {
+    let mut input = host::standard_input(&rt);
     let mut case = [0u8; 642];
     let mut turns = u64::MAX;
     while 0 < turns {
-        let n = io::read_full(STDIN_FILENO, &mut case);
+        let n = host::read_full(&mut input, &mut case);
         if n < 642 {
             return;
         }
-        if !run(&case) {
+        if !run(&rt, &mut input, &case) {
             return;
         }
         turns -= 1;

@@ -9,7 +9,7 @@
 // length (two bytes), the place (eight) and eight zeros. The last 40 begin with the numbers of the record for task 4, and with its body for 5.
 ghost use Rattle.std.specs.Prelude.{◌+◌, ◌<◌, ◌≤◌, ◌≡◌, length};
 
-use libc::{STDIN_FILENO, STDOUT_FILENO};
+use host::Source;
 use lines::{put, put_decimal, put_hex};
 use steering::{HoldTime, JoinFloor, NodeAddress, Note, Radio, Reading, Record, Written};
 
@@ -40,24 +40,28 @@ fn long(bytes: &[u8], at: usize) -> u64
     value
 }
 
-fn print_refused(number: u8, place: usize) {
+fn print_refused(rt: &HostRuntime, number: u8, place: usize) {
     let mut line = [0u8; 64];
     let named = put(&mut line, 0, b"refused ");
     let numbered = put_decimal(&mut line, named, number as u64);
     let at = put(&mut line, numbered, b" at ");
     let placed = put_decimal(&mut line, at, place as u64);
     let end = put(&mut line, placed, b"\n");
-    io::write_all(STDOUT_FILENO, &line[0..end]);
+    let _ = host::print(rt, &line[0..end]);
 }
 
-// Puts a text and a number of so many hex digits, up to sixteen.
+// Puts a text and a number of so many hex digits, up to sixteen and an even count; of sixteen where it needs more.
 fn put_field(line: &mut [u8], at: usize, text: &[u8], number: u64, digits: usize) -> usize
     ensures { result ≤ length line.new }
 {
-    let mut spelled = [0u8; 16];
-    let n = io::hex(number, digits, &mut spelled);
+    let bytes = number.to_be_bytes();
+    let from = if 16 <= digits || number >> (4 * digits) != 0 {
+        0
+    } else {
+        8 - digits / 2
+    };
     let named = put(line, at, text);
-    put(line, named, &spelled[..n])
+    put_hex(line, named, &bytes[from..])
 }
 
 fn put_floor(line: &mut [u8], at: usize, radio: Radio, level: u16) -> usize
@@ -92,45 +96,45 @@ fn put_record(line: &mut [u8], at: usize, record: Record) -> usize
     }
 }
 
-fn print_found(record: Record, next: usize) {
+fn print_found(rt: &HostRuntime, record: Record, next: usize) {
     let mut line = [0u8; 128];
     let named = put(&mut line, 0, b"found ");
     let placed = put_decimal(&mut line, named, next as u64);
     let told = put_record(&mut line, placed, record);
     let end = put(&mut line, told, b"\n");
-    io::write_all(STDOUT_FILENO, &line[0..end]);
+    let _ = host::print(rt, &line[0..end]);
 }
 
-fn read(table: &[u8], place: usize) {
+fn read(rt: &HostRuntime, table: &[u8], place: usize) {
     match steering::read_at(table, place) {
         Reading::Found { record, next } => {
-            print_found(record, next);
+            print_found(rt, record, next);
         }
         Reading::End => {
-            io::write_all(STDOUT_FILENO, b"end\n");
+            let _ = host::print(rt, b"end\n");
         }
         Reading::Refused { number, place } => {
-            print_refused(number, place);
+            print_refused(rt, number, place);
         }
     }
 }
 
-fn count(table: &[u8]) {
+fn count(rt: &HostRuntime, table: &[u8]) {
     let counted = steering::count(table);
     let refused = counted.refusal;
     if refused != 0 {
-        print_refused(refused, counted.place);
+        print_refused(rt, refused, counted.place);
         return;
     }
     let mut line = [0u8; 64];
     let named = put(&mut line, 0, b"records ");
     let numbered = put_decimal(&mut line, named, counted.count as u64);
     let end = put(&mut line, numbered, b"\n");
-    io::write_all(STDOUT_FILENO, &line[0..end]);
+    let _ = host::print(rt, &line[0..end]);
 }
 
 // The line holds a room of 4,097 bytes.
-fn print_room(refusal: u8, place: usize, room: &[u8]) {
+fn print_room(rt: &HostRuntime, refusal: u8, place: usize, room: &[u8]) {
     let mut line = [0u8; 8256];
     let refused = put_decimal(&mut line, 0, refusal as u64);
     let spaced = put(&mut line, refused, b" ");
@@ -138,35 +142,35 @@ fn print_room(refusal: u8, place: usize, room: &[u8]) {
     let spaced_too = put(&mut line, placed, b" ");
     let spelled = put_hex(&mut line, spaced_too, room);
     let end = put(&mut line, spelled, b"\n");
-    io::write_all(STDOUT_FILENO, &line[0..end]);
+    let _ = host::print(rt, &line[0..end]);
 }
 
 // Lends the first so many bytes of the room.
-fn fingerprint(salt: &[u8], table: &[u8], room: &mut [u8], end: usize)
+fn fingerprint(rt: &HostRuntime, salt: &[u8], table: &[u8], room: &mut [u8], end: usize)
     requires { end ≤ length room.old }
 {
     let answer = steering::fingerprint(salt, table, &mut room[0..end]);
-    print_room(answer.refusal, answer.place, room);
+    print_room(rt, answer.refusal, answer.place, room);
 }
 
 // The case of a header of 24 bytes and a table.
-fn run(header: &[u8], table: &[u8])
+fn run(rt: &HostRuntime, header: &[u8], table: &[u8])
     requires { length header.now ≡ 24 }
 {
     let task = header[0];
     if task == 1 {
-        read(table, short(header, 4));
+        read(rt, table, short(header, 4));
         return;
     }
     if task == 2 {
-        count(table);
+        count(rt, table);
         return;
     }
     let salt_end = 8 + wide(header[1]) as usize;
     let room_end = wide(header[2]) as usize;
     if salt_end <= 24 && room_end <= 40 {
         let mut room = [0xa5u8; 40];
-        fingerprint(&header[8..salt_end], table, &mut room, room_end);
+        fingerprint(rt, &header[8..salt_end], table, &mut room, room_end);
     }
 }
 
@@ -229,42 +233,43 @@ fn put_given(header: &[u8], given: &[u8], room: &mut [u8], end: usize) -> Writte
 }
 
 // The case of a header and a room: reads the 40 bytes that follow, and prints the room afterwards.
-fn write(header: &[u8], room: &mut [u8])
+fn write(rt: &HostRuntime, input: &mut Source, header: &[u8], room: &mut [u8])
     requires { length header.now ≡ 24 }
 {
     let mut given = [0u8; 40];
-    let k = io::read_full(STDIN_FILENO, &mut given);
+    let k = host::read_full(input, &mut given);
     let end = wide(header[2]) as usize;
     if k == 40 && end <= 40 {
         let written = put_given(header, &given, room, end);
-        print_room(written.refusal, written.next, room);
+        print_room(rt, written.refusal, written.next, room);
     }
 }
 
 // Reads the table or the room of n bytes that follows its header.
-fn run_next(header: &[u8], room: &mut [u8], n: usize)
+fn run_next(rt: &HostRuntime, input: &mut Source, header: &[u8], room: &mut [u8], n: usize)
     requires header_len { length header.now ≡ 24 }
     requires n_in_bounds { n ≤ length room.old }
 {
     let table = &mut room[0..n];
-    let k = io::read_full(STDIN_FILENO, table);
+    let k = host::read_full(input, table);
     if k < n {
         return;
     }
     if header[0] < 4 {
-        run(header, table);
+        run(rt, header, table);
     } else {
-        write(header, table);
+        write(rt, input, header, table);
     }
 }
 
 // A proved loop has to end, and nothing says that the input does: the turns count down from a number that no run uses up.
-fn main() {
+fn main(rt: HostRuntime) {
+    let mut input = host::standard_input(&rt);
     let mut header = [0u8; 24];
     let mut room = [0u8; 4097];
     let mut turns = u64::MAX;
     while 0 < turns {
-        let k = io::read_full(STDIN_FILENO, &mut header);
+        let k = host::read_full(&mut input, &mut header);
         if k < 24 {
             return;
         }
@@ -272,7 +277,7 @@ fn main() {
         if 4097 < n {
             return;
         }
-        run_next(&header, &mut room, n);
+        run_next(&rt, &mut input, &header, &mut room, n);
         turns -= 1;
     }
 }

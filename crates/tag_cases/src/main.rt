@@ -16,7 +16,7 @@ ghost use Rattle.std.specs.Prelude.{◌≤◌, ◌+◌, ◌<◌, ◌≡◌, leng
 
 use echo::{Mode, Session};
 use hmac::{Checking, TagAnswer, TagSession};
-use libc::{STDIN_FILENO, STDOUT_FILENO};
+use host::Source;
 use lines::{put, put_decimal, put_hex};
 
 // ---- numbers and bytes of a case
@@ -236,54 +236,54 @@ fn put_answer(line: &mut [u8], answer: TagAnswer, form: Form) -> usize
     put_session(line, refused, answer.session, form)
 }
 
-fn print_refused(number: u8) {
+fn print_refused(rt: &HostRuntime, number: u8) {
     let mut line = [0u8; 32];
     let named = put(&mut line, 0, b"refused ");
     let numbered = put_decimal(&mut line, named, number as u64);
     let end = put(&mut line, numbered, b"\n");
-    io::write_all(STDOUT_FILENO, &line[0..end]);
+    let _ = host::print(rt, &line[0..end]);
 }
 
 // The tag, and what checks of it and of another say.
-fn print_tag(tag: &[u8], right: bool, other: bool) {
+fn print_tag(rt: &HostRuntime, tag: &[u8], right: bool, other: bool) {
     let mut line = [0u8; 160];
     let spelled = put_hex(&mut line, 0, tag);
     let first = put_verdict(&mut line, spelled, right);
     let second = put_verdict(&mut line, first, other);
     let end = put(&mut line, second, b"\n");
-    io::write_all(STDOUT_FILENO, &line[0..end]);
+    let _ = host::print(rt, &line[0..end]);
 }
 
-fn print_answer(answer: TagAnswer, form: Form) {
+fn print_answer(rt: &HostRuntime, answer: TagAnswer, form: Form) {
     let mut line = [0u8; 2048];
     let answered = put_answer(&mut line, answer, form);
     let end = put(&mut line, answered, b"\n");
-    io::write_all(STDOUT_FILENO, &line[0..end]);
+    let _ = host::print(rt, &line[0..end]);
 }
 
 // The answer, and the room that was lent.
-fn print_with_room(answer: TagAnswer, room: &[u8], form: Form) {
+fn print_with_room(rt: &HostRuntime, answer: TagAnswer, room: &[u8], form: Form) {
     let mut line = [0u8; 2560];
     let answered = put_answer(&mut line, answer, form);
     let roomed = put_bytes(&mut line, answered, room);
     let end = put(&mut line, roomed, b"\n");
-    io::write_all(STDOUT_FILENO, &line[0..end]);
+    let _ = host::print(rt, &line[0..end]);
 }
 
-fn print_checking(checking: Checking, form: Form) {
+fn print_checking(rt: &HostRuntime, checking: Checking, form: Form) {
     let mut line = [0u8; 2048];
     let refused = put_decimal(&mut line, 0, checking.refusal as u64);
     let said = put_verdict(&mut line, refused, checking.yes);
     let handed_back = put_session(&mut line, said, checking.session, form);
     let end = put(&mut line, handed_back, b"\n");
-    io::write_all(STDOUT_FILENO, &line[0..end]);
+    let _ = host::print(rt, &line[0..end]);
 }
 
-fn print_whether(yes: bool) {
+fn print_whether(rt: &HostRuntime, yes: bool) {
     if yes {
-        io::write_all(STDOUT_FILENO, b"yes\n");
+        let _ = host::print(rt, b"yes\n");
     } else {
-        io::write_all(STDOUT_FILENO, b"no\n");
+        let _ = host::print(rt, b"no\n");
     }
 }
 
@@ -299,19 +299,19 @@ fn changed(bytes: [u8; 64], at: usize) -> [u8; 64]
 }
 
 // Makes and checks at once; the last byte of the tag stands at the place n.
-fn at_once(bits: u64, salt: &[u8], key: &[u8], message: &[u8], n: usize)
+fn at_once(rt: &HostRuntime, bits: u64, salt: &[u8], key: &[u8], message: &[u8], n: usize)
     requires { n < 64 }
 {
     let mut tag = [0u8; 64];
     let refusal = hmac::make_tag(bits, salt, key, message, &mut tag);
     if refusal != 0 {
-        print_refused(refusal);
+        print_refused(rt, refusal);
         return;
     }
     let other = changed(tag, n);
     let right = hmac::check_tag(bits, salt, key, message, &tag[0..n + 1]);
     let wrong = hmac::check_tag(bits, salt, key, message, &other[0..n + 1]);
-    print_tag(&tag[0..n + 1], right.yes, wrong.yes);
+    print_tag(rt, &tag[0..n + 1], right.yes, wrong.yes);
 }
 
 // Where a piece of k bytes from `at` on ends in a message of n bytes.
@@ -347,30 +347,38 @@ fn in_pieces(opened: TagSession, message: &[u8], k: usize, tag: &mut [u8]) -> Ta
 }
 
 // Checks the tag, whose last byte stands at the place n, and another.
-fn check_both(session: TagSession, tag: [u8; 64], n: usize)
+fn check_both(rt: &HostRuntime, session: TagSession, tag: [u8; 64], n: usize)
     requires { n < 64 }
 {
     let other = changed(tag, n);
     let right = session.check(&tag[0..n + 1]);
     let wrong = session.check(&other[0..n + 1]);
-    print_tag(&tag[0..n + 1], right.yes, wrong.yes);
+    print_tag(rt, &tag[0..n + 1], right.yes, wrong.yes);
 }
 
 // Makes and checks over a session.
-fn over_a_session(bits: u64, salt: &[u8], key: &[u8], message: &[u8], k: usize, n: usize)
+fn over_a_session(
+    rt: &HostRuntime,
+    bits: u64,
+    salt: &[u8],
+    key: &[u8],
+    message: &[u8],
+    k: usize,
+    n: usize,
+)
     requires k_nonzero { 0 < k }
     requires n_bound { n < 64 }
 {
     let opening = TagSession::open(bits, salt, key);
     let refused = opening.refusal;
     if refused != 0 {
-        print_refused(refused);
+        print_refused(rt, refused);
         return;
     }
     let mut tag = [0u8; 64];
     let session = in_pieces(opening.session, message, k, &mut tag);
     let reading = session.read(&mut tag);
-    check_both(reading.session, tag, n);
+    check_both(rt, reading.session, tag, n);
 }
 
 // The place of the tag's last byte, or the room's where there is no such tag.
@@ -388,7 +396,7 @@ fn last_place(bits: u64) -> usize
 }
 
 // The salt ends at the place `end` of the head.
-fn whole(head: &[u8], key: &[u8], message: &[u8], end: usize)
+fn whole(rt: &HostRuntime, head: &[u8], key: &[u8], message: &[u8], end: usize)
     requires head_len { length head.now ≡ 40 }
     requires le_end { 24 ≤ end }
     requires end_bound { end ≤ 40 }
@@ -397,14 +405,14 @@ fn whole(head: &[u8], key: &[u8], message: &[u8], end: usize)
     let k = short(head, 14);
     let n = last_place(bits);
     if k == 0 {
-        at_once(bits, &head[24..end], key, message, n);
+        at_once(rt, bits, &head[24..end], key, message, n);
     } else {
-        over_a_session(bits, &head[24..end], key, message, k, n);
+        over_a_session(rt, bits, &head[24..end], key, message, k, n);
     }
 }
 
 // Tasks 1 and 2, which begin with a key.
-fn with_key(head: &[u8])
+fn with_key(rt: &HostRuntime, head: &[u8])
     requires { length head.now ≡ 40 }
 {
     let key_end = short(head, 10);
@@ -424,7 +432,13 @@ fn with_key(head: &[u8])
     let mut message = [0u8; 1024];
     fill(&mut message, head[17]);
     if head[0] == 1 {
-        whole(head, &key[0..key_end], &message[0..message_end], salt_end);
+        whole(
+            rt,
+            head,
+            &key[0..key_end],
+            &message[0..message_end],
+            salt_end,
+        );
     } else {
         let form = Form {
             all: false,
@@ -433,6 +447,7 @@ fn with_key(head: &[u8])
             outer: 0,
         };
         print_answer(
+            rt,
             TagSession::open(long(head, 2), &head[24..salt_end], &key[0..key_end]),
             form,
         );
@@ -442,23 +457,23 @@ fn with_key(head: &[u8])
 // ---- tag sessions
 
 // Lends the room, and prints what is in it afterwards.
-fn read(session: TagSession, room: &mut [u8], form: Form) {
+fn read(rt: &HostRuntime, session: TagSession, room: &mut [u8], form: Form) {
     let answer = session.read(room);
-    print_with_room(answer, room, form);
+    print_with_room(rt, answer, room, form);
 }
 
 // Lends the first n bytes of a room that is the case's.
-fn read_into(session: TagSession, body: &[u8], n: usize, form: Form)
+fn read_into(rt: &HostRuntime, session: TagSession, body: &[u8], n: usize, form: Form)
     requires body_len { length body.now ≡ 1025 }
     requires n_bound { n ≤ 255 }
 {
     let mut room = [0u8; 255];
     take(body, 770, &mut room);
-    read(session, &mut room[0..n], form);
+    read(rt, session, &mut room[0..n], form);
 }
 
 // Tasks from 3 on, on a record that is handed over.
-fn with_session(task: u8, n: usize, body: &[u8])
+fn with_session(rt: &HostRuntime, task: u8, n: usize, body: &[u8])
     requires body_len { length body.now ≡ 1025 }
     requires n_bound { n ≤ 255 }
 {
@@ -471,43 +486,44 @@ fn with_session(task: u8, n: usize, body: &[u8])
     let session = tag_session(body, form.in_bits);
     let end = 770 + n;
     if task == 3 || task == 7 || task == 10 {
-        print_answer(session.add(&body[770..end]), form);
+        print_answer(rt, session.add(&body[770..end]), form);
     } else if task == 4 || task == 8 || task == 11 {
-        read_into(session, body, n, form);
+        read_into(rt, session, body, n, form);
     } else if task == 5 || task == 12 {
-        print_whether(session.is_session());
+        print_whether(rt, session.is_session());
     } else {
-        print_checking(session.check(&body[770..end]), form);
+        print_checking(rt, session.check(&body[770..end]), form);
     }
 }
 
 // The case of a head, with what stands behind it; false where the input ends within that.
-fn run(head: &[u8]) -> bool
+fn run(rt: &HostRuntime, input: &mut Source, head: &[u8]) -> bool
     requires { length head.now ≡ 40 }
 {
     if head[0] < 3 {
-        with_key(head);
+        with_key(rt, head);
         return true;
     }
     let mut body = [0u8; 1025];
-    let n = io::read_full(STDIN_FILENO, &mut body);
+    let n = host::read_full(input, &mut body);
     if n < 1025 {
         return false;
     }
-    with_session(head[0], wide(head[1]) as usize, &body);
+    with_session(rt, head[0], wide(head[1]) as usize, &body);
     true
 }
 
 // A proved loop has to end, and nothing says that the input does: the turns count down from a number that no run uses up.
-fn main() {
+fn main(rt: HostRuntime) {
+    let mut input = host::standard_input(&rt);
     let mut head = [0u8; 40];
     let mut turns = u64::MAX;
     while 0 < turns {
-        let n = io::read_full(STDIN_FILENO, &mut head);
+        let n = host::read_full(&mut input, &mut head);
         if n < 40 {
             return;
         }
-        if !run(&head) {
+        if !run(&rt, &mut input, &head) {
             return;
         }
         turns -= 1;

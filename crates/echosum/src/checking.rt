@@ -8,7 +8,6 @@ use super::options::Options;
 use super::saying::say_why;
 use super::summing::{digest_named, is_dash, mode_of};
 use echo::Session;
-use libc::STDOUT_FILENO;
 use lines::{put, put_named};
 
 // What came of the lines of a list so far.
@@ -48,23 +47,23 @@ impl Tally {
         self
     }
 
-    fn with_unread(mut self, name: &[u8], options: Options) -> Tally {
+    fn with_unread(mut self, rt: &HostRuntime, name: &[u8], options: Options) -> Tally {
         self.unread = one_more(self.unread);
         if options.is_silent {
             return self;
         }
-        self.told(name, b": FAILED open or read\n")
+        self.told(rt, name, b": FAILED open or read\n")
     }
 
-    fn with_mismatch(mut self, name: &[u8], options: Options) -> Tally {
+    fn with_mismatch(mut self, rt: &HostRuntime, name: &[u8], options: Options) -> Tally {
         self.mismatched = one_more(self.mismatched);
         if options.is_silent {
             return self;
         }
-        self.told(name, b": FAILED\n")
+        self.told(rt, name, b": FAILED\n")
     }
 
-    fn with_match(mut self, name: &[u8], options: Options) -> Tally {
+    fn with_match(mut self, rt: &HostRuntime, name: &[u8], options: Options) -> Tally {
         self.has_match = true;
         if options.is_silent {
             return self;
@@ -72,21 +71,20 @@ impl Tally {
         if options.is_quiet {
             return self;
         }
-        self.told(name, b": OK\n")
+        self.told(rt, name, b": OK\n")
     }
 
     // Prints what came of a file.
-    fn told(mut self, name: &[u8], what: &[u8]) -> Tally {
-        let is_written = print_result(name, what);
-        if !is_written {
-            say_why(b"standard output");
+    fn told(mut self, rt: &HostRuntime, name: &[u8], what: &[u8]) -> Tally {
+        if let Err(error) = print_result(rt, name, what) {
+            say_why(rt, b"standard output", error);
             self.is_written = false;
         }
         self
     }
 
     // A line, without its line end and with something in it.
-    pub fn take_line(self, line: &[u8], options: Options) -> Tally {
+    pub fn take_line(self, rt: &HostRuntime, line: &[u8], options: Options) -> Tally {
         let listed = listed_in(line, options.terms());
         if !listed.is_good {
             return self.with_improper();
@@ -96,11 +94,12 @@ impl Tally {
         let mut name = [0u8; 8448];
         let n = put_listed(&mut name, &line[from..to], listed.is_escaped);
         let expected = listed.digest;
-        self.take_file(&name[0..n], listed, expected, options)
+        self.take_file(rt, &name[0..n], listed, expected, options)
     }
 
     fn take_file(
         mut self,
+        rt: &HostRuntime,
         name: &[u8],
         listed: Listed,
         expected: [u8; 64],
@@ -113,18 +112,18 @@ impl Tally {
         let salt = listed.salt;
         let opening = Session::open(mode_of(listed.is_single), listed.bits, &salt);
         let session = opening.session;
-        let summed = digest_named(session, name, options.passes_missing);
+        let summed = digest_named(rt, session, name, options.passes_missing);
         if summed.is_missing {
             return self;
         }
         if !summed.is_whole {
-            return self.with_unread(name, options);
+            return self.with_unread(rt, name, options);
         }
         let found = summed.digest;
         if is_same(&expected, &found) {
-            return self.with_match(name, options);
+            return self.with_match(rt, name, options);
         }
-        self.with_mismatch(name, options)
+        self.with_mismatch(rt, name, options)
     }
 }
 
@@ -140,10 +139,10 @@ fn put_listed(room: &mut [u8], text: &[u8], is_escaped: bool) -> usize
 
 // A name is escaped where it has a line end, as `sha256sum -c` does, and else printed as it is. A room holds a name as long as a line of
 // a list, each byte of it escaped, and what stands behind it.
-fn print_result(name: &[u8], what: &[u8]) -> bool {
+fn print_result(rt: &HostRuntime, name: &[u8], what: &[u8]) -> Result<(), i32> {
     let mut line = [0u8; 17152];
     let end = put_result(&mut line, name, what);
-    io::write_all(STDOUT_FILENO, &line[0..end])
+    host::print(rt, &line[0..end])
 }
 
 fn put_result(room: &mut [u8], name: &[u8], what: &[u8]) -> usize

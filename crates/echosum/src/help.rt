@@ -1,22 +1,24 @@
 // What is printed where help or the version is asked for.
 use super::saying::say_why;
-use libc::STDOUT_FILENO;
 
 // Answers whether it was written, and says it where not.
-fn print(text: &[u8]) -> bool {
-    let is_written = io::write_all(STDOUT_FILENO, text);
-    if !is_written {
-        say_why(b"standard output");
+fn print(rt: &HostRuntime, text: &[u8]) -> bool {
+    match host::print(rt, text) {
+        Ok(()) => true,
+        Err(error) => {
+            say_why(rt, b"standard output", error);
+            false
+        }
     }
-    is_written
 }
 
-pub(crate) fn print_version() -> bool {
-    print(b"echosum (Bahmorist) 0.9.0\n")
+pub(crate) fn print_version(rt: &HostRuntime) -> bool {
+    print(rt, b"echosum (Bahmorist) 0.9.0\n")
 }
 
-pub(crate) fn print_help() -> bool {
+pub(crate) fn print_help(rt: &HostRuntime) -> bool {
     print(
+        rt,
         b"\
 usage: echosum [-1] [-b BITS] [-s SALT] [--tag] [-z] [FILE...]\n\
 \x20 or:  echosum -c [-1] [-b BITS] [-s SALT] [OPTION...] [FILE...]\n\

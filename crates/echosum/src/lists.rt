@@ -7,7 +7,7 @@ use super::saying::{
     say_endless, say_improper, say_mismatched, say_no_lines, say_none_verified, say_unread, say_why,
 };
 use super::summing::{Outcome, is_dash};
-use libc::STDIN_FILENO;
+use host::Source;
 
 // A line that goes on for longer ends the reading, since it may never end.
 const LONGEST: usize = 1048576;
@@ -43,7 +43,13 @@ fn keep(line: &mut [u8], at: usize, byte: u8) {
 }
 
 // A whole line, which may be empty, a comment, or longer than its room.
-fn take_line(line: &[u8], length: usize, tally: Tally, options: Options) -> Tally {
+fn take_line(
+    rt: &HostRuntime,
+    line: &[u8],
+    length: usize,
+    tally: Tally,
+    options: Options,
+) -> Tally {
     if length == 0 {
         return tally;
     }
@@ -61,7 +67,7 @@ fn take_line(line: &[u8], length: usize, tally: Tally, options: Options) -> Tall
     if end == 0 {
         return tally;
     }
-    tally.take_line(&text[0..end], options)
+    tally.take_line(rt, &text[0..end], options)
 }
 
 impl Reading {
@@ -76,17 +82,23 @@ impl Reading {
     }
 
     // The line at hand is whole.
-    fn end_line(mut self, line: &[u8], options: Options) -> Reading {
-        let tally = take_line(line, self.length, self.tally, options);
+    fn end_line(mut self, rt: &HostRuntime, line: &[u8], options: Options) -> Reading {
+        let tally = take_line(rt, line, self.length, self.tally, options);
         self.length = 0;
         self.goes_on = tally.is_written;
         self.tally = tally;
         self
     }
 
-    fn take_byte(mut self, byte: u8, line: &mut [u8], options: Options) -> Reading {
+    fn take_byte(
+        mut self,
+        rt: &HostRuntime,
+        byte: u8,
+        line: &mut [u8],
+        options: Options,
+    ) -> Reading {
         if byte == b'\n' {
-            return self.end_line(line, options);
+            return self.end_line(rt, line, options);
         }
         let at = self.length;
         if LONGEST <= at {
@@ -99,40 +111,54 @@ impl Reading {
         self
     }
 
-    fn take_bytes(self, bytes: &[u8], line: &mut [u8], options: Options) -> Reading {
+    fn take_bytes(
+        self,
+        rt: &HostRuntime,
+        bytes: &[u8],
+        line: &mut [u8],
+        options: Options,
+    ) -> Reading {
         let mut reading = self;
         let mut i = 0;
         while i < bytes.len() && reading.goes_on {
-            reading = reading.take_byte(bytes[i], line, options);
+            reading = reading.take_byte(rt, bytes[i], line, options);
             i += 1;
         }
         reading
     }
 
     // Reads once. A last line without a line end is a line too.
-    fn read_some(mut self, fd: i32, list: &[u8], line: &mut [u8], options: Options) -> Reading {
-        let mut room = io::large_buffer();
-        let got = libc::read(fd, &mut room);
-        if got < 0 {
-            say_why(list);
-            self.is_broken = true;
+    fn read_some(
+        mut self,
+        rt: &HostRuntime,
+        from: &mut Source,
+        list: &[u8],
+        line: &mut [u8],
+        options: Options,
+    ) -> Reading {
+        let mut room = [0u8; 65536];
+        let n = match host::read(from, &mut room) {
+            Ok(n) => n,
+            Err(error) => {
+                say_why(rt, list, error);
+                self.is_broken = true;
+                self.goes_on = false;
+                return self;
+            }
+        };
+        if n == 0 {
+            self = self.end_line(rt, line, options);
             self.goes_on = false;
             return self;
         }
-        if got == 0 {
-            self = self.end_line(line, options);
-            self.goes_on = false;
-            return self;
-        }
-        let n = io::count(got, &room);
-        self.take_bytes(&room[..n], line, options)
+        self.take_bytes(rt, &room[..n], line, options)
     }
 
     // Says what was wrong with the list, and answers how it went.
-    fn conclude(self, list: &[u8], options: Options) -> Outcome {
+    fn conclude(self, rt: &HostRuntime, list: &[u8], options: Options) -> Outcome {
         let tally = self.tally;
         if self.is_endless {
-            say_endless(list);
+            say_endless(rt, list);
         }
         if self.is_endless || self.is_broken || !tally.is_written {
             return Outcome {
@@ -140,19 +166,19 @@ impl Reading {
                 is_good: false,
             };
         }
-        conclude_tally(tally, list, options)
+        conclude_tally(rt, tally, list, options)
     }
 }
 
-fn conclude_tally(tally: Tally, list: &[u8], options: Options) -> Outcome {
+fn conclude_tally(rt: &HostRuntime, tally: Tally, list: &[u8], options: Options) -> Outcome {
     if !tally.has_proper {
-        say_no_lines(list);
+        say_no_lines(rt, list);
     } else if !options.is_silent {
-        say_improper(tally.improper);
-        say_unread(tally.unread);
-        say_mismatched(tally.mismatched);
+        say_improper(rt, tally.improper);
+        say_unread(rt, tally.unread);
+        say_mismatched(rt, tally.mismatched);
         if options.passes_missing && !tally.has_match {
-            say_none_verified(list);
+            say_none_verified(rt, list);
         }
     }
     Outcome {
@@ -177,31 +203,40 @@ fn is_verified(tally: Tally, is_strict: bool) -> bool {
 
 // Nothing says that a list ends, so the turns are counted down, from a number that no run uses up. A room holds a tagged line with a name of
 // 4,096 bytes, each of them escaped.
-fn check_all(fd: i32, list: &[u8], is_input: bool, options: Options) -> Outcome {
+fn check_all(
+    rt: &HostRuntime,
+    from: &mut Source,
+    list: &[u8],
+    is_input: bool,
+    options: Options,
+) -> Outcome {
     let mut line = [0u8; 8448];
     let mut reading = Reading::begun(is_input);
     let mut turns = u64::MAX;
     while 0 < turns && reading.goes_on {
-        reading = reading.read_some(fd, list, &mut line, options);
+        reading = reading.read_some(rt, from, list, &mut line, options);
         turns -= 1;
     }
-    reading.conclude(list, options)
+    reading.conclude(rt, list, options)
 }
 
 // Checks the lines of a list. A dash is standard input.
-pub(crate) fn check_list(list: &[u8], options: Options) -> Outcome {
+pub(crate) fn check_list(rt: &HostRuntime, list: &[u8], options: Options) -> Outcome {
     if is_dash(list) {
-        return check_all(STDIN_FILENO, b"standard input", true, options);
+        let mut from = host::standard_input(rt);
+        return check_all(rt, &mut from, b"standard input", true, options);
     }
-    let fd = os::open_read(list);
-    if fd < 0 {
-        say_why(list);
-        return Outcome {
-            goes_on: true,
-            is_good: false,
-        };
+    match host::open(rt, list) {
+        Ok(file) => {
+            let mut from = file;
+            check_all(rt, &mut from, list, false, options)
+        }
+        Err(error) => {
+            say_why(rt, list, error);
+            Outcome {
+                goes_on: true,
+                is_good: false,
+            }
+        }
     }
-    let outcome = check_all(fd, list, false, options);
-    libc::close(fd);
-    outcome
 }

@@ -2,79 +2,80 @@
 // the command line and no line of a list has a longer one.
 ghost use Rattle.std.specs.Prelude.{◌≤◌, length};
 
-use libc::STDERR_FILENO;
 use lines::{put, put_decimal, put_named, put_reason};
 
-fn say(before: &[u8], name: &[u8], after: &[u8]) {
+fn say(rt: &HostRuntime, before: &[u8], name: &[u8], after: &[u8]) {
     let mut line = [0u8; 17152];
     let end = put_named(&mut line, 0, before, name, after);
-    io::write_all(STDERR_FILENO, &line[0..end]);
+    let _ = host::say(rt, &line[0..end]);
 }
 
-// Says why the last call failed.
-pub(crate) fn say_why(name: &[u8]) {
-    let error = os::errno();
+// Says why a call failed, by the number of its error.
+pub(crate) fn say_why(rt: &HostRuntime, name: &[u8], error: i32) {
     let mut why = [0u8; 64];
     let begun = put(&mut why, 0, b": ");
     let reason = put_reason(&mut why, begun, error);
     let end = put(&mut why, reason, b"\n");
-    say(b"echosum: ", name, &why[0..end]);
+    say(rt, b"echosum: ", name, &why[0..end]);
 }
 
-pub(crate) fn say_too_long(name: &[u8]) {
-    say(b"echosum: ", name, b": over 2^61 - 21 bytes\n");
+pub(crate) fn say_too_long(rt: &HostRuntime, name: &[u8]) {
+    say(rt, b"echosum: ", name, b": over 2^61 - 21 bytes\n");
 }
 
-pub(crate) fn say_bad_word(word: &[u8]) {
+pub(crate) fn say_bad_word(rt: &HostRuntime, word: &[u8]) {
     say(
+        rt,
         b"echosum: bad word ",
         word,
         b" (usage: echosum [-1] [-b BITS] [-s SALT] [-c] [FILE...]; see echosum --help)\n",
     );
 }
 
-pub(crate) fn say_no_value(flag: &[u8]) {
+pub(crate) fn say_no_value(rt: &HostRuntime, flag: &[u8]) {
     say(
+        rt,
         b"echosum: no value behind ",
         flag,
         b" (usage: echosum [-1] [-b BITS] [-s SALT] [-c] [FILE...]; see echosum --help)\n",
     );
 }
 
-pub(crate) fn say_bad_bits(bits: u64) {
+pub(crate) fn say_bad_bits(rt: &HostRuntime, bits: u64) {
     let mut line = [0u8; 64];
     let named = put(&mut line, 0, b"echosum: bad bits ");
     let numbered = put_decimal(&mut line, named, bits);
     let end = put(&mut line, numbered, b"\n");
-    io::write_all(STDERR_FILENO, &line[0..end]);
+    let _ = host::say(rt, &line[0..end]);
 }
 
 // An option that does not go with the check of lists.
-pub(crate) fn say_without(option: &[u8], why: &[u8]) {
+pub(crate) fn say_without(rt: &HostRuntime, option: &[u8], why: &[u8]) {
     let mut line = [0u8; 128];
     let begun = put(&mut line, 0, b"echosum: the ");
     let named = put(&mut line, begun, option);
     let told = put(&mut line, named, why);
     let end = put(&mut line, told, b" when verifying checksums\n");
-    io::write_all(STDERR_FILENO, &line[0..end]);
+    let _ = host::say(rt, &line[0..end]);
 }
 
 // ---- of a list
 
-pub(crate) fn say_endless(list: &[u8]) {
-    say(b"echosum: ", list, b": a line of over 1048576 bytes\n");
+pub(crate) fn say_endless(rt: &HostRuntime, list: &[u8]) {
+    say(rt, b"echosum: ", list, b": a line of over 1048576 bytes\n");
 }
 
-pub(crate) fn say_no_lines(list: &[u8]) {
+pub(crate) fn say_no_lines(rt: &HostRuntime, list: &[u8]) {
     say(
+        rt,
         b"echosum: ",
         list,
         b": no properly formatted checksum lines found\n",
     );
 }
 
-pub(crate) fn say_none_verified(list: &[u8]) {
-    say(b"echosum: ", list, b": no file was verified\n");
+pub(crate) fn say_none_verified(rt: &HostRuntime, list: &[u8]) {
+    say(rt, b"echosum: ", list, b": no file was verified\n");
 }
 
 // One of two texts.
@@ -88,7 +89,7 @@ fn put_either(room: &mut [u8], at: usize, is_one: bool, one: &[u8], other: &[u8]
 }
 
 // A number of things that went wrong, in words for one and for several.
-fn say_count(count: u64, one: &[u8], several: &[u8]) {
+fn say_count(rt: &HostRuntime, count: u64, one: &[u8], several: &[u8]) {
     if count == 0 {
         return;
     }
@@ -96,27 +97,30 @@ fn say_count(count: u64, one: &[u8], several: &[u8]) {
     let begun = put(&mut line, 0, b"echosum: WARNING: ");
     let numbered = put_decimal(&mut line, begun, count);
     let end = put_either(&mut line, numbered, count == 1, one, several);
-    io::write_all(STDERR_FILENO, &line[0..end]);
+    let _ = host::say(rt, &line[0..end]);
 }
 
-pub(crate) fn say_improper(count: u64) {
+pub(crate) fn say_improper(rt: &HostRuntime, count: u64) {
     say_count(
+        rt,
         count,
         b" line is improperly formatted\n",
         b" lines are improperly formatted\n",
     );
 }
 
-pub(crate) fn say_unread(count: u64) {
+pub(crate) fn say_unread(rt: &HostRuntime, count: u64) {
     say_count(
+        rt,
         count,
         b" listed file could not be read\n",
         b" listed files could not be read\n",
     );
 }
 
-pub(crate) fn say_mismatched(count: u64) {
+pub(crate) fn say_mismatched(rt: &HostRuntime, count: u64) {
     say_count(
+        rt,
         count,
         b" computed checksum did NOT match\n",
         b" computed checksums did NOT match\n",

@@ -2,7 +2,7 @@
 use super::saying::{say_too_long, say_why};
 use super::style::{Style, put_line};
 use echo::{Mode, Session};
-use libc::{ENOENT, STDIN_FILENO, STDOUT_FILENO};
+use host::{NO_FILE, Source};
 
 // A session that has taken what was read so far, whether there may be more, and whether it has taken the whole file.
 #[derive(Clone, Copy)]
@@ -36,30 +36,31 @@ pub(crate) fn mode_of(is_single: bool) -> Mode {
 }
 
 // Reads once and adds what came. What goes wrong is said here.
-fn add_some(fd: i32, name: &[u8], session: Session) -> Progress {
-    let mut room = io::large_buffer();
-    let got = libc::read(fd, &mut room);
-    if got < 0 {
-        say_why(name);
-        return Progress {
-            goes_on: false,
-            is_whole: false,
-            session: session,
-        };
-    }
-    if got == 0 {
+fn add_some(rt: &HostRuntime, from: &mut Source, name: &[u8], session: Session) -> Progress {
+    let mut room = [0u8; 65536];
+    let n = match host::read(from, &mut room) {
+        Ok(n) => n,
+        Err(error) => {
+            say_why(rt, name, error);
+            return Progress {
+                goes_on: false,
+                is_whole: false,
+                session: session,
+            };
+        }
+    };
+    if n == 0 {
         return Progress {
             goes_on: false,
             is_whole: true,
             session: session,
         };
     }
-    let n = io::count(got, &room);
     let adding = session.add(&room[..n]);
     let refused = adding.refusal;
     let added = adding.session;
     if refused != 0 {
-        say_too_long(name);
+        say_too_long(rt, name);
         return Progress {
             goes_on: false,
             is_whole: false,
@@ -74,7 +75,7 @@ fn add_some(fd: i32, name: &[u8], session: Session) -> Progress {
 }
 
 // Reads to the end of the file. Nothing says that a file ends, so the turns are counted down, from a number that no run uses up.
-fn add_all(fd: i32, name: &[u8], session: Session) -> Progress {
+fn add_all(rt: &HostRuntime, from: &mut Source, name: &[u8], session: Session) -> Progress {
     let mut progress = Progress {
         goes_on: true,
         is_whole: false,
@@ -83,7 +84,7 @@ fn add_all(fd: i32, name: &[u8], session: Session) -> Progress {
     let mut turns = u64::MAX;
     while 0 < turns && progress.goes_on {
         let so_far = progress.session;
-        progress = add_some(fd, name, so_far);
+        progress = add_some(rt, from, name, so_far);
         turns -= 1;
     }
     progress
@@ -91,16 +92,21 @@ fn add_all(fd: i32, name: &[u8], session: Session) -> Progress {
 
 // Prints the line of a digest, and says it where that can't be written. A room holds a name of 4,096 bytes, each of them escaped, and what
 // stands around it.
-fn print_line(digest: &[u8], name: &[u8], style: Style) -> Outcome {
+fn print_line(rt: &HostRuntime, digest: &[u8], name: &[u8], style: Style) -> Outcome {
     let mut line = [0u8; 8448];
     let end = put_line(&mut line, style, digest, name);
-    let is_written = io::write_all(STDOUT_FILENO, &line[0..end]);
-    if !is_written {
-        say_why(b"standard output");
-    }
-    Outcome {
-        goes_on: is_written,
-        is_good: is_written,
+    match host::print(rt, &line[0..end]) {
+        Ok(()) => Outcome {
+            goes_on: true,
+            is_good: true,
+        },
+        Err(error) => {
+            say_why(rt, b"standard output", error);
+            Outcome {
+                goes_on: false,
+                is_good: false,
+            }
+        }
     }
 }
 
@@ -111,9 +117,15 @@ fn failed() -> Outcome {
     }
 }
 
-// The line of what is read from `fd`, or why there is none.
-fn sum(session: Session, fd: i32, name: &[u8], style: Style) -> Outcome {
-    let progress = add_all(fd, name, session);
+// The line of what is read, or why there is none.
+fn sum(
+    rt: &HostRuntime,
+    session: Session,
+    from: &mut Source,
+    name: &[u8],
+    style: Style,
+) -> Outcome {
+    let progress = add_all(rt, from, name, session);
     if !progress.is_whole {
         return failed();
     }
@@ -126,7 +138,7 @@ fn sum(session: Session, fd: i32, name: &[u8], style: Style) -> Outcome {
         return failed();
     }
     let n = (whole.bits / 8) as usize;
-    print_line(&room[0..n], name, style)
+    print_line(rt, &room[0..n], name, style)
 }
 
 // A dash is standard input.
@@ -137,18 +149,21 @@ pub(crate) fn is_dash(name: &[u8]) -> bool {
     name[0] == b'-'
 }
 
-pub(crate) fn sum_named(session: Session, name: &[u8], style: Style) -> Outcome {
+pub(crate) fn sum_named(rt: &HostRuntime, session: Session, name: &[u8], style: Style) -> Outcome {
     if is_dash(name) {
-        return sum(session, STDIN_FILENO, name, style);
+        let mut from = host::standard_input(rt);
+        return sum(rt, session, &mut from, name, style);
     }
-    let fd = os::open_read(name);
-    if fd < 0 {
-        say_why(name);
-        return failed();
+    match host::open(rt, name) {
+        Ok(file) => {
+            let mut from = file;
+            sum(rt, session, &mut from, name, style)
+        }
+        Err(error) => {
+            say_why(rt, name, error);
+            failed()
+        }
     }
-    let outcome = sum(session, fd, name, style);
-    libc::close(fd);
-    outcome
 }
 
 fn none_summed(is_missing: bool) -> Summed {
@@ -159,9 +174,9 @@ fn none_summed(is_missing: bool) -> Summed {
     }
 }
 
-// The digest of what is read from `fd`.
-fn digest_of(session: Session, fd: i32, name: &[u8]) -> Summed {
-    let progress = add_all(fd, name, session);
+// The digest of what is read.
+fn digest_of(rt: &HostRuntime, session: Session, from: &mut Source, name: &[u8]) -> Summed {
+    let progress = add_all(rt, from, name, session);
     if !progress.is_whole {
         return none_summed(false);
     }
@@ -180,21 +195,27 @@ fn digest_of(session: Session, fd: i32, name: &[u8]) -> Summed {
 }
 
 // The digest of a file. Where missing files are passed over, that one is missing is not said.
-pub(crate) fn digest_named(session: Session, name: &[u8], passes_missing: bool) -> Summed {
+pub(crate) fn digest_named(
+    rt: &HostRuntime,
+    session: Session,
+    name: &[u8],
+    passes_missing: bool,
+) -> Summed {
     if is_dash(name) {
-        return digest_of(session, STDIN_FILENO, name);
+        let mut from = host::standard_input(rt);
+        return digest_of(rt, session, &mut from, name);
     }
-    let fd = os::open_read(name);
-    if fd < 0 {
-        if passes_missing {
-            if os::errno() == ENOENT {
+    match host::open(rt, name) {
+        Ok(file) => {
+            let mut from = file;
+            digest_of(rt, session, &mut from, name)
+        }
+        Err(error) => {
+            if passes_missing && error == NO_FILE {
                 return none_summed(true);
             }
+            say_why(rt, name, error);
+            none_summed(false)
         }
-        say_why(name);
-        return none_summed(false);
     }
-    let summed = digest_of(session, fd, name);
-    libc::close(fd);
-    summed
 }

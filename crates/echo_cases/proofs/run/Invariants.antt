@@ -1,0 +1,8 @@
+-- `run` is safe: the lengths are tested before anything is lent. Assumes nothing.
+use mathlib.Core.Path.{◌≡◌}
+use Prim.Native.Nat.{◌-◌, ◌≤◌}
+use lib.ListN.{length}
+use Rattle.echo_cases.proofs.run.Given as goal
+
+abbrev pub invariant-loop-i : goal.invariant-loop-i
+invariant-loop-i l = (length l.a ≡ 272) × (l.i ≤ 272) × (15 ≤ l.salt-end) × (l.salt-end ≤ 33) × (l.a-end ≤ 272) × (305 ≤ l.block-end) × (l.block-end ≤ 545)

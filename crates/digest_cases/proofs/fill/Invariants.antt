@@ -1,6 +1,6 @@
 -- `fill` is safe. Assumes nothing.
 use mathlib.Core.Path.{◌≡◌}
-use Prim.Native.Nat.{◌-◌, ◌≤◌}
+use Prim.Native.Nat.{◌≤◌}
 use lib.ListN.{length}
 use Rattle.digest_cases.proofs.fill.Given as goal
 

@@ -1,6 +1,6 @@
 -- `run` is safe: the lengths are tested before anything is lent. Assumes nothing.
 use mathlib.Core.Path.{◌≡◌}
-use Prim.Native.Nat.{◌-◌, ◌≤◌}
+use Prim.Native.Nat.{◌≤◌}
 use lib.ListN.{length}
 use Rattle.echo_cases.proofs.run.Given as goal
 

@@ -1,5 +1,5 @@
 -- `run` is safe: n is a line of the input in both loops. Assumes nothing.
-use Prim.Native.Nat.{◌-◌, ◌≤◌}
+use Prim.Native.Nat.{◌≤◌}
 use Rattle.fips197_rounds.proofs.run.Given as goal
 
 abbrev pub invariant-loop-n : goal.invariant-loop-n

@@ -1,6 +1,6 @@
 -- `take` is safe: the room ends within the bytes. Assumes nothing.
 use mathlib.Core.Path.{◌≡◌}
-use Prim.Native.Nat.{◌+◌, ◌-◌, ◌≤◌}
+use Prim.Native.Nat.{◌+◌, ◌≤◌}
 use lib.ListN.{length}
 use Rattle.session_cases.proofs.take.Given as goal
 

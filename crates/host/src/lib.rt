@@ -12,3 +12,6 @@ pub use numbers::NO_FILE;
 pub use reading::{Source, open, read, read_full, standard_input};
 pub use words::{word, word_count};
 pub use writing::{print, say, write_all, write_to};
+
+#[cfg(test)]
+mod tests;

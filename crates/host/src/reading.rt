@@ -1,9 +1,9 @@
 // Reading of standard input and of files.
-ghost use Rattle.std.specs.Prelude.{◌≡◌, Err, pos};
+ghost use Rattle.std.specs.Prelude.{◌≡◌, Err, pos, take};
 ghost use Rattle.std.specs.Str.{IsUtf8};
 ghost use Rattle.std.specs.Counts.{IsPrefixLen};
 ghost use Rattle.std.specs.Io.{ReadsAtMost};
-ghost use Rattle.std.specs.Io.KnownBytes.{ReadConsumes};
+ghost use Rattle.std.specs.Io.KnownBytes.{Consumes, ReadConsumes};
 
 use super::numbers::{NO_TEXT, number_of};
 use std::fs::File;
@@ -56,7 +56,8 @@ pub fn read<R: Read>(from: &mut R, room: &mut [u8]) -> Result<usize, i32>
 
 // Reads until the room is full, the input ends or a read fails, and answers how many bytes it put at the front of the room.
 pub fn read_full<R: Read>(from: &mut R, room: &mut [u8]) -> usize
-    ensures { IsPrefixLen result room.new }
+    ensures within { IsPrefixLen result room.new }
+    ensures bytes { Consumes (R.remaining from.old) (R.remaining from.new) (take result room.new) }
 {
     let mut done = 0;
     while done < room.len() {

@@ -1,4 +1,6 @@
 // Fake words, readers and writers, that fail where the system seldom does; and what the system itself answers.
+ghost use Rattle.std.specs.Io.{WritesAtMost};
+
 use super::{Source, open, read, read_full, standard_input, word, word_count, write_all, write_to};
 use std::env::{Env, FillError};
 use std::io;
@@ -27,7 +29,9 @@ impl Env for Words {
     }
 }
 
-fn fill(bytes: &[u8], room: &mut [u8]) -> Result<usize, FillError> {
+fn fill(bytes: &[u8], room: &mut [u8]) -> Result<usize, FillError>
+    ensures { WritesAtMost result room.new }
+{
     if room.len() < bytes.len() {
         return Err(FillError::TooLong);
     }

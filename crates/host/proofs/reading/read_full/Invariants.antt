@@ -1,9 +1,13 @@
--- The room keeps its length, and no more than that is put into it.
-use Rattle.std.proofs.Common.{length, ◌-◌, ◌≡◌, ◌≤◌}
+-- The room keeps its length, no more than that is put into it, and what is put there is what the reader gave.
+use Rattle.std.proofs.Common.{length, take, ◌-◌, ◌≡◌, ◌≤◌}
+use Rattle.std.specs.Io.KnownBytes.{Consumes}
 use Rattle.host.proofs.reading.read_full.Given as goal
 
 abbrev pub invariant-loop-done : goal.invariant-loop-done
-invariant-loop-done g l = (l.done ≤ length l.room) × (length l.room ≡ length l.initial.room)
+invariant-loop-done g l =
+    (l.done ≤ length l.room)
+    × (length l.room ≡ length l.initial.room)
+    × Consumes (g.R.Read.remaining l.initial.from) (g.R.Read.remaining l.from) (take l.done l.room)
 
 abbrev pub decreases-loop-done : goal.decreases-loop-done
 decreases-loop-done g l = length l.initial.room - l.done

@@ -1,5 +1,6 @@
 // Words of the command line.
-ghost use Rattle.std.specs.Prelude.{◌≤◌, length};
+ghost use Rattle.std.specs.Prelude.{◌≡◌, ◌≤◌, length};
+ghost use Rattle.std.specs.Bool.{Decides};
 
 // Puts the word i at the front of `room` and answers its length. Of a word that is longer than the room only the front comes, and that will
 // do: no option or path is so long.
@@ -18,6 +19,8 @@ pub(crate) fn is_dashed(word: &[u8]) -> bool {
 }
 
 // Whether two texts have the same bytes.
-pub(crate) fn is_same(a: &[u8], b: &[u8]) -> bool {
+pub(crate) fn is_same(a: &[u8], b: &[u8]) -> bool
+    ensures { Decides result (a.now ≡ b.now) }
+{
     a == b
 }

@@ -5,6 +5,6 @@ abbrev pub number_of : Bool → ℕ
 number_of true = 1
 number_of false = 0
 
--- of its three parts, 0.9.0
+-- of its three parts, 0.8.0
 abbrev pub version_number : ℕ
-version_number = 10000 * 0 + 100 * 9 + 0
+version_number = 10000 * 0 + 100 * 8 + 0

@@ -13,7 +13,7 @@ fn print(rt: &HostRuntime, text: &[u8]) -> bool {
 }
 
 pub(crate) fn print_version(rt: &HostRuntime) -> bool {
-    print(rt, b"echosum (Bahmorist) 0.9.0\n")
+    print(rt, b"echosum (Bahmorist) 0.8.0\n")
 }
 
 pub(crate) fn print_help(rt: &HostRuntime) -> bool {

@@ -8,7 +8,7 @@ fn print(rt: &HostRuntime, text: &[u8]) {
 }
 
 pub(crate) fn print_version(rt: &HostRuntime) {
-    print(rt, b"fingerprint_table (Bahmorist) 0.9.0\n");
+    print(rt, b"fingerprint_table (Bahmorist) 0.8.0\n");
 }
 
 pub(crate) fn print_help(rt: &HostRuntime) {

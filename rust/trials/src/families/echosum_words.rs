@@ -49,7 +49,7 @@ Status: 0 where all is well. 1 where a word is bad, a file or list can't be read
 can't be written; with -c, where a file does not match too, or where a list has none that does.
 ";
 
-const VERSION: &str = "echosum (Bahmorist) 0.9.0\n";
+const VERSION: &str = "echosum (Bahmorist) 0.8.0\n";
 
 const ZEROS: [u8; 16] = [0; 16];
 const SALT: [u8; 16] = *b"\x00\x0a\xa0\xff456789abcdef";

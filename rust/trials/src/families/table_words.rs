@@ -181,7 +181,7 @@ fn common(program: Program, folder: &Path, empty: String) -> Vec<Job> {
         |words: &[&str], word: &str| bad(words, "second file ", word, &format!(" ({usage})"));
     let missing = |words: &[&str], word: &str| bad(words, "", word, ": No such file or directory");
     let helped = format!("{usage}\n{help}");
-    let version = format!("{name} (Bahmorist) 0.9.0\n");
+    let version = format!("{name} (Bahmorist) 0.8.0\n");
     vec![
         good(&["--help"], &helped),
         good(&["-h", "--version"], &helped),

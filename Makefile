@@ -13,10 +13,11 @@
 # The examples: a steering table's records, its fingerprint, and the digest of "abc".
 all:
 	@mkdir -p target
-	@echo "proving and building every crate takes five to ten minutes; what is said goes to target/check.log"
-	@rt check >target/check.log 2>&1 || { grep -E 'error: |NOT PROVED|FAILED' target/check.log | head -n 20 | cut -c 1-200; tail -n 5 target/check.log | cut -c 1-200; exit 1; }
+	@echo "proving and building every crate takes some minutes; what is said goes to target/check.log"
+	@rt all check --jobs "$$(nproc)" >target/check.log 2>&1 || { grep -E 'error|it is not proved|not proved|no proof|: failed|: not run' target/check.log | head -n 20 | cut -c 1-200; tail -n 1 target/check.log; exit 1; }
 	@tail -n 1 target/check.log
 	@tools/library
+	@tools/programs $(PROGRAMS)
 	@tools/run list_table <crates/list_table/stdin
 	@tools/run fingerprint_table <crates/fingerprint_table/stdin
 	@printf abc | tools/run echosum
@@ -70,7 +71,7 @@ uninstall:
 	for folder in "$(own)/programs" "$(own)" "$(pages)/docs" "$(pages)"; do [ ! -d "$$folder" ] || rmdir "$$folder" || :; done
 
 clean:
-	rm -rf target rust/target
+	rm -rf target rust/target crates/*/out
 
 help:
 	@sed -n 's/^# make/make/p' Makefile

@@ -17,7 +17,7 @@ all:
 	@rt all check --jobs "$$(nproc)" >target/check.log 2>&1 || { grep -E 'error|it is not proved|not proved|no proof|: failed|: not run' target/check.log | head -n 20 | cut -c 1-200; tail -n 1 target/check.log; exit 1; }
 	@tail -n 1 target/check.log
 	@tools/library
-	@tools/programs $(PROGRAMS)
+	@tools/programs
 	@tools/run list_table <crates/list_table/stdin
 	@tools/run fingerprint_table <crates/fingerprint_table/stdin
 	@printf abc | tools/run echosum

@@ -1,7 +1,6 @@
 //! Links the proved library for the target that is built for: the archive in the
 //! folder that `BAHMORIST_LIB_DIR` names, whatever the target is; or, without that, the
-//! one that `tools/library` makes for this machine, or, on another one, the kit's own
-//! for x86-64 Linux.
+//! one that `tools/library` makes for x86-64 Linux, or for Linux on Arm.
 
 use std::env;
 use std::path::{Path, PathBuf};
@@ -49,11 +48,9 @@ fn folder() -> Result<PathBuf, String> {
         return Err(format!("the library is for Linux, and not for {system}"));
     }
     match processor.as_str() {
-        own if own == env::consts::ARCH => Ok("target/native".into()),
-        "x86_64" => Ok("target/staticlib".into()),
-        other => Err(format!(
-            "the library for {other} is made on a machine of that kind"
-        )),
+        "x86_64" => Ok("target/native".into()),
+        "aarch64" => Ok("target/aarch64".into()),
+        other => Err(format!("no library is made for {other}")),
     }
 }
 

@@ -9,8 +9,8 @@
 //!
 //! The library is linked from the folder that the environment variable
 //! `BAHMORIST_LIB_DIR` names while this package is built, for any target. Without it,
-//! from `target/native`, where `tools/library` puts it, or, for x86-64 Linux from
-//! another machine, from `target/staticlib`. Nothing of Rust's `std` is used.
+//! from `target/native` for x86-64 Linux, where `tools/library` puts it, and from
+//! `target/aarch64` for Linux on Arm. Nothing of Rust's `std` is used.
 
 #![no_std]
 #![deny(missing_docs)]

@@ -16,7 +16,9 @@ slice_range-put_mid : (a k n : ℕ) (xs ys : List ℕ) → a ≤ length xs → n
 slice_range-put_mid a k n xs ys within fits =
     let same : (a + n) - a ≡ n = omega arith in
     let after = post_of a k xs in
-    ap (take ((a + n) - a)) (drop_at (take a xs) (ys ++ after) a (length-take-le a xs within)) ∙ ap (λ m. take m (ys ++ after)) same ∙ take-append-le n ys after fits
+    ap (take ((a + n) - a)) (drop_at (take a xs) (ys ++ after) a (length-take-le a xs within))
+    ∙ ap (λ m. take m (ys ++ after)) same
+    ∙ take-append-le n ys after fits
 
 pub loop-done-preserved : goal.loop-done-preserved
 loop-done-preserved g c =
@@ -24,5 +26,8 @@ loop-done-preserved g c =
     let room = length c.loop-done.room - from in
     let within = c.loop-done.invariant.0 in
     let part = slice_range-put_mid from room c.in-Ok.n c.loop-done.room c.read.new.room within c.in-Ok.ensures.within.0 in
-    let joined = take_split from (from + c.in-Ok.n) c.loop-done.room (put_mid from room c.loop-done.room c.read.new.room) (omega arith) (take-put_mid_below _ _ _ _ _ (le_refl _) within) in
-    (search rules, search rules, subst (Consumes _ _) (ap (λ l. take from c.loop-done.room ++ l) (sym part) ∙ joined) (Consumes-trans _ _ _ _ _ c.loop-done.invariant.2 c.in-Ok.ensures.bytes.0))
+    let to = from + c.in-Ok.n in
+    let after = put_mid from room c.loop-done.room c.read.new.room in
+    let joined = take_split from to c.loop-done.room after (omega arith) (take-put_mid_below _ _ _ _ _ (le_refl _) within) in
+    let consumed = Consumes-trans _ _ _ _ _ c.loop-done.invariant.2 c.in-Ok.ensures.bytes.0 in
+    (search rules, search rules, subst (Consumes _ _) (ap (λ l. take from c.loop-done.room ++ l) (sym part) ∙ joined) consumed)

@@ -3,6 +3,7 @@
 // All of it goes through std, from the runtime that `main` is given. A call that failed answers the error number of the system, as C has it.
 #![tactic(auto)]
 
+mod descriptors;
 mod numbers;
 mod reading;
 mod words;

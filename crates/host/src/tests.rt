@@ -1,6 +1,7 @@
 // Fake words, readers and writers, that fail where the system seldom does; and what the system itself answers.
 ghost use Rattle.std.specs.Io.{WritesAtMost};
 
+use super::descriptors::allows_writing;
 use super::{Source, open, read, read_full, standard_input, word, word_count, write_all, write_to};
 use std::env::{Env, FillError};
 use std::io;
@@ -151,4 +152,15 @@ fn what_cannot_be_opened_is_told(rt: HostRuntime) -> Result<(), Fail> {
         Source::Input(_) => Ok(()),
         Source::File(_) => Err("a file")?,
     }
+}
+
+// As Linux says it of descriptors that are open for reading, for writing, for both, and for nothing but their path.
+#[test]
+fn how_a_descriptor_is_open(rt: HostRuntime) {
+    assert!(rt; !allows_writing(b"pos:\t0\nflags:\t0100000\nmnt_id:\t15\n"));
+    assert!(rt; allows_writing(b"pos:\t0\nflags:\t0100001\nmnt_id:\t15\n"));
+    assert!(rt; allows_writing(b"pos:\t7\nflags:\t02100002\nmnt_id:\t15\n"));
+    assert!(rt; !allows_writing(b"pos:\t0\nflags:\t"));
+    assert!(rt; !allows_writing(b"pos:\t1\n"));
+    assert!(rt; !allows_writing(b""));
 }

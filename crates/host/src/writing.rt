@@ -2,6 +2,7 @@
 ghost use Rattle.std.specs.Prelude.{OnOk};
 ghost use Rattle.std.specs.Io.KnownBytes.{Appends};
 
+use super::descriptors::{is_for_writing, name_of};
 use super::numbers::{NO_DESCRIPTOR, NOT_WRITTEN, number_of};
 use std::fs::OpenOptions;
 use std::io::Write;
@@ -32,30 +33,20 @@ pub fn say(rt: &HostRuntime, bytes: &[u8]) -> Result<(), i32> {
     write_all(&mut rt.stderr(), bytes)
 }
 
-// Writes to the descriptor of a number from 3 to 9, which is opened once more, by its name: std has no other way to one that it did not open.
-// What is a file is written behind its end, and not where the descriptor stands.
+// Writes to the descriptor of a number from 3 to 9 where that is open for writing. It is opened once more, by its name: std has no other way to one that
+// it did not open. What is a file is written behind its end, and not where the descriptor stands.
 pub fn write_to(rt: &HostRuntime, descriptor: i32, bytes: &[u8]) -> Result<(), i32> {
-    let Some(name) = descriptor_name(descriptor) else {
+    let Some(name) = name_of(descriptor) else {
         return Err(NO_DESCRIPTOR);
     };
+    if !is_for_writing(rt, descriptor) {
+        return Err(NO_DESCRIPTOR);
+    }
     match OpenOptions::new().append(true).open(rt, name) {
         Ok(file) => {
             let mut opened = file;
             write_all(&mut opened, bytes)
         }
         Err(error) => Err(number_of(error)),
-    }
-}
-
-fn descriptor_name(descriptor: i32) -> Option<&'static str> {
-    match descriptor {
-        3 => Some("/dev/fd/3"),
-        4 => Some("/dev/fd/4"),
-        5 => Some("/dev/fd/5"),
-        6 => Some("/dev/fd/6"),
-        7 => Some("/dev/fd/7"),
-        8 => Some("/dev/fd/8"),
-        9 => Some("/dev/fd/9"),
-        _ => None,
     }
 }

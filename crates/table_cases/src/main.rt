@@ -1,17 +1,13 @@
 #![tactic(auto)]
-// Reads tables of standard input's cases at a place, counts their records or takes their fingerprint, or writes a record at a place of a room,
-// and prints what was answered.
+// Reads tables of standard input's cases at a place, counts their records or takes their fingerprint, and prints what was answered.
 //
 // A case is 24 bytes and a table: the task (1, 2, 3), the salt's length, the output room's length, a zero, the place (two bytes), the
 // table's length (two) and sixteen salt bytes. Numbers have their least significant byte first.
-//
-// Of the tasks 4 and 5, which write, it is 24 bytes, a room and 40 bytes: the task, the kind byte, the body's length, three zeros, the room's
-// length (two bytes), the place (eight) and eight zeros. The last 40 begin with the numbers of the record for task 4, and with its body for 5.
 ghost use Rattle.std.specs.Prelude.{◌+◌, ◌<◌, ◌≤◌, ◌≡◌, length};
 
 use host::Source;
 use lines::{put, put_decimal, put_hex};
-use steering::{HoldTime, JoinFloor, NodeAddress, Note, Radio, Reading, Record, Written};
+use steering::{Note, Radio, Reading, Record};
 
 fn wide(x: u8) -> u64
     ensures { result < 256 }
@@ -25,19 +21,6 @@ fn short(bytes: &[u8], at: usize) -> usize
     ensures { result < 65536 }
 {
     (wide(bytes[at]) + 256 * wide(bytes[at + 1])) as usize
-}
-
-// The number in eight bytes from the place `at` on.
-fn long(bytes: &[u8], at: usize) -> u64
-    requires { at + 8 ≤ length bytes.now }
-{
-    let mut value: u64 = 0;
-    let mut left: usize = 8;
-    while 0 < left {
-        left -= 1;
-        value = (value % 0x100_0000_0000_0000) * 256 + wide(bytes[at + left]);
-    }
-    value
 }
 
 fn print_refused(rt: &HostRuntime, number: u8, place: usize) {
@@ -133,9 +116,8 @@ fn count(rt: &HostRuntime, table: &[u8]) {
     let _ = host::print(rt, &line[0..end]);
 }
 
-// The line holds a room of 4,097 bytes.
 fn print_room(rt: &HostRuntime, refusal: u8, place: usize, room: &[u8]) {
-    let mut line = [0u8; 8256];
+    let mut line = [0u8; 128];
     let refused = put_decimal(&mut line, 0, refusal as u64);
     let spaced = put(&mut line, refused, b" ");
     let placed = put_decimal(&mut line, spaced, place as u64);
@@ -174,91 +156,15 @@ fn run(rt: &HostRuntime, header: &[u8], table: &[u8])
     }
 }
 
-fn floor(radio: Radio, given: &[u8]) -> Record
-    requires { length given.now ≡ 40 }
-{
-    Record::Floor(JoinFloor {
-        radio: radio,
-        level: short(given, 0) as u16,
-    })
-}
-
-fn hold(given: &[u8]) -> Record
-    requires { length given.now ≡ 40 }
-{
-    Record::Hold(HoldTime {
-        time: (long(given, 0) % 0x1_0000_0000) as u32,
-    })
-}
-
-fn note(given: &[u8]) -> Record
-    requires { length given.now ≡ 40 }
-{
-    Record::Note(Note {
-        first: long(given, 0),
-        second: long(given, 8),
-        third: long(given, 16),
-        fourth: long(given, 24),
-    })
-}
-
-// The record of a kind whose numbers are given.
-fn record_of(kind: u8, given: &[u8]) -> Record
-    requires { length given.now ≡ 40 }
-{
-    match kind {
-        1 => Record::Node(NodeAddress {
-            address: long(given, 0),
-        }),
-        2 => floor(Radio::Low, given),
-        3 => floor(Radio::High, given),
-        4 => hold(given),
-        _ => note(given),
-    }
-}
-
-// Puts the record of a header and of what is given into the room, by its numbers or by its body.
-fn put_given(header: &[u8], given: &[u8], room: &mut [u8], end: usize) -> Written
-    requires header_len { length header.now ≡ 24 }
-    requires given_len { length given.now ≡ 40 }
-    requires end_bound { end ≤ 40 }
-{
-    let kind = header[1];
-    let place = long(header, 8) as usize;
-    if header[0] == 4 {
-        steering::write_at(room, place, record_of(kind, given))
-    } else {
-        steering::write_body_at(room, place, kind, &given[0..end])
-    }
-}
-
-// The case of a header and a room: reads the 40 bytes that follow, and prints the room afterwards.
-fn write(rt: &HostRuntime, input: &mut Source, header: &[u8], room: &mut [u8])
-    requires { length header.now ≡ 24 }
-{
-    let mut given = [0u8; 40];
-    let k = host::read_full(input, &mut given);
-    let end = wide(header[2]) as usize;
-    if k == 40 && end <= 40 {
-        let written = put_given(header, &given, room, end);
-        print_room(rt, written.refusal, written.next, room);
-    }
-}
-
-// Reads the table or the room of n bytes that follows its header.
+// Reads the table of n bytes that follows its header.
 fn run_next(rt: &HostRuntime, input: &mut Source, header: &[u8], room: &mut [u8], n: usize)
     requires header_len { length header.now ≡ 24 }
     requires n_in_bounds { n ≤ length room.old }
 {
     let table = &mut room[0..n];
     let k = host::read_full(input, table);
-    if k < n {
-        return;
-    }
-    if header[0] < 4 {
+    if k == n {
         run(rt, header, table);
-    } else {
-        write(rt, input, header, table);
     }
 }
 

@@ -16,6 +16,7 @@ mod session_cases;
 mod table_cases;
 mod table_programs;
 mod tag_cases;
+mod writing_cases;
 
 use file::File;
 use std::path::Path;
@@ -30,6 +31,7 @@ fn files() -> Vec<File> {
         tag_cases::files(),
         table_programs::files(),
         table_cases::files(),
+        writing_cases::files(),
         echosum::files(),
         known_answers::files(),
     ]

@@ -1,5 +1,5 @@
 //! Cases of the program `table_cases`: tables read at a place, counted and
-//! fingerprinted, and records written at a place of a room, done and refused.
+//! fingerprinted, done and refused.
 
 mod build;
 mod long;
@@ -8,7 +8,6 @@ mod record;
 mod refused;
 #[cfg(test)]
 mod tests;
-mod writing;
 
 use crate::file::File;
 use plain::hex;
@@ -17,29 +16,19 @@ use seeded::Generator;
 
 /// The program's input and the output it has to give.
 pub fn files() -> Vec<File> {
-    let read = cases();
-    let written = writing::cases(&mut Generator::new(16));
-    let records = read.iter().map(Case::record);
-    let lines = read.iter().map(Case::line);
+    let cases = cases();
     vec![
         File {
             path: "crates/table_cases/stdin",
-            bytes: records
-                .chain(written.iter().map(writing::Case::record))
-                .flatten()
-                .collect(),
+            bytes: cases.iter().flat_map(Case::record).collect(),
         },
         File {
             path: "crates/table_cases/stdout",
-            bytes: lines
-                .chain(written.iter().map(writing::Case::line))
-                .collect::<String>()
-                .into(),
+            bytes: cases.iter().map(Case::line).collect::<String>().into(),
         },
     ]
 }
 
-/// Those of the tasks 1 to 3. Those that write stand behind them.
 fn cases() -> Vec<Case> {
     let mut generator = Generator::new(3);
     let mut cases = short(&mut generator);

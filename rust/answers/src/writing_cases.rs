@@ -1,19 +1,21 @@
-//! Cases of the writer: records put at a place of a room, by their values and by kind
-//! byte and body, done and refused.
+//! Cases of the program `writing_cases`: records put at a place of a room, by their
+//! values and by kind byte and body, done and refused.
 
 mod record;
 #[cfg(test)]
 mod tests;
 
-pub use record::Case;
-#[cfg(test)]
-pub use record::GIVEN;
-
-use super::build::{KINDS, UNKNOWN};
+use crate::file::File;
 use plain::refusal::TABLE_LIMIT;
 use plain::table::{body_length, Radio, Values};
-use record::Given;
+use record::{Case, Given};
 use seeded::Generator;
+
+/// The kinds that records have.
+const KINDS: [u8; 5] = [1, 2, 3, 4, 5];
+
+/// Kind bytes that no record has.
+const UNKNOWN: [u8; 3] = [0, 6, 255];
 
 /// Bytes of a room in which every record finds more than one place.
 const ROOM: usize = 40;
@@ -21,14 +23,30 @@ const ROOM: usize = 40;
 /// Addresses about the first that six bytes don't hold, and the ends.
 const ADDRESSES: [u64; 6] = [0, 1, (1 << 48) - 1, 1 << 48, (1 << 48) + 1, u64::MAX];
 
-pub fn cases(generator: &mut Generator) -> Vec<Case> {
-    let mut cases = places(generator);
-    cases.extend(exact_rooms(generator));
-    cases.extend(short_rooms(generator));
-    cases.extend(long_rooms(generator));
-    cases.extend(addresses(generator));
-    cases.extend(numbers(generator));
-    cases.extend(bodies(generator));
+/// The program's input and the output it has to give.
+pub fn files() -> Vec<File> {
+    let cases = cases();
+    vec![
+        File {
+            path: "crates/writing_cases/stdin",
+            bytes: cases.iter().flat_map(Case::record).collect(),
+        },
+        File {
+            path: "crates/writing_cases/stdout",
+            bytes: cases.iter().map(Case::line).collect::<String>().into(),
+        },
+    ]
+}
+
+fn cases() -> Vec<Case> {
+    let mut generator = Generator::new(16);
+    let mut cases = places(&mut generator);
+    cases.extend(exact_rooms(&mut generator));
+    cases.extend(short_rooms(&mut generator));
+    cases.extend(long_rooms(&mut generator));
+    cases.extend(addresses(&mut generator));
+    cases.extend(numbers(&mut generator));
+    cases.extend(bodies(&mut generator));
     cases
 }
 

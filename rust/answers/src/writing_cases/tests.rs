@@ -1,3 +1,4 @@
+use super::record::GIVEN;
 use super::*;
 use plain::hex;
 use std::collections::HashSet;
@@ -18,10 +19,6 @@ fn node(address: u64) -> Given {
 
 fn body(kind: u8, digits: &str) -> Given {
     Given::Body(kind, hex::decode(digits))
-}
-
-fn all() -> Vec<Case> {
-    cases(&mut Generator::new(16))
 }
 
 /// The kind byte of a record, and how long its body is.
@@ -106,7 +103,7 @@ fn lines_of_records_by_kind_and_body() {
 
 #[test]
 fn a_record_is_put_there_and_nothing_else_or_nothing_at_all() {
-    for case in all() {
+    for case in cases() {
         let ((number, next), room) = case.written();
         if number != 0 {
             assert_eq!((next, &room), (0, &case.room));
@@ -123,7 +120,7 @@ fn a_record_is_put_there_and_nothing_else_or_nothing_at_all() {
 #[test]
 fn every_set_of_refusals_is_met_and_the_lowest_wins() {
     let mut met = HashSet::new();
-    for case in all() {
+    for case in cases() {
         let (kind, length) = kind_and_length(&case);
         let end = u128::from(case.place) + 1 + length as u128;
         let too_high =
@@ -161,7 +158,7 @@ fn every_set_of_refusals_is_met_and_the_lowest_wins() {
 
 #[test]
 fn every_kind_is_written_and_refused_by_both_tasks() {
-    let cases = all();
+    let cases = cases();
     for task in [4, 5] {
         for kind in KINDS {
             for is_written in [true, false] {
@@ -175,7 +172,16 @@ fn every_kind_is_written_and_refused_by_both_tasks() {
 
 #[test]
 fn rooms_of_every_length_to_40_and_the_longest() {
-    let lengths: HashSet<usize> = all().iter().map(|case| case.room.len()).collect();
+    let lengths: HashSet<usize> = cases().iter().map(|case| case.room.len()).collect();
     assert_eq!(lengths, (0..=ROOM).chain([4096, 4097]).collect());
-    assert!((200..500).contains(&all().len()));
+    assert!((200..500).contains(&cases().len()));
+}
+
+#[test]
+fn the_files_hold_every_case() {
+    let cases = cases();
+    let rooms: usize = cases.iter().map(|case| case.room.len()).sum();
+    let files = files();
+    assert_eq!(files[0].bytes.len(), cases.len() * (24 + GIVEN) + rooms);
+    assert_eq!(files[1].lines(), cases.len());
 }

@@ -1,6 +1,6 @@
 -- `long` is safe: the value is cut to seven bytes before one more is added. Assumes nothing.
 use Prim.Native.Nat.{◌≤◌}
-use Rattle.table_cases.proofs.long.Given as goal
+use Rattle.writing_cases.proofs.long.Given as goal
 
 abbrev pub invariant-loop-left : goal.invariant-loop-left
 invariant-loop-left l = l.left ≤ 8

@@ -1,5 +1,5 @@
-//! One case of the writer: its record, a header of 24 bytes, the room and what is put
-//! there, and the line it has to give.
+//! One case of `writing_cases`: its record, a header of 24 bytes, the room and what is
+//! put there, and the line it has to give.
 
 use plain::hex;
 use plain::table::{self, Values, Written};

@@ -296,7 +296,8 @@ module _ (n : ℕ) where
 
 -- sixteen bytes, written out
 pub four_numbers : (s : List ℕ)
-    → number (λ p. get_or s (0 + p) 0) ∷ number (λ p. get_or s (4 + p) 0) ∷ number (λ p. get_or s (8 + p) 0) ∷ number (λ p. get_or s (12 + p) 0) ∷ [] ≡ numbers 4 s
+    → number (λ p. get_or s (0 + p) 0) ∷ number (λ p. get_or s (4 + p) 0) ∷ number (λ p. get_or s (8 + p) 0) ∷ number (λ p. get_or s (12 + p) 0) ∷ []
+    ≡ numbers 4 s
 four_numbers = words.four_numbers
 
 -- ---- the path by tables

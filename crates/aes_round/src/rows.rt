@@ -9,7 +9,7 @@ use super::row_table_2::ROW_2;
 use super::row_table_3::ROW_3;
 use super::sub_table::SUB;
 
-#[derive(Drop)]
+#[derive(Clone, Copy)]
 pub struct RowTables {
     pub row_0: [u32; 256],
     pub row_1: [u32; 256],

@@ -103,7 +103,8 @@ pub a_refused_wide_compression_leaves_the_chaining_value : (k : ℕ) (mode : Mod
     → compress_wide_leaves mode chaining block counter salt ≡ chaining
 a_refused_wide_compression_leaves_the_chaining_value = refusing.a_refused_wide_compression_leaves_the_chaining_value
 
-pub a_refused_opening_is_blank : (k : ℕ) (mode : Mode) (h : ℕ) (salt : List ℕ) → open_refusal h (length salt) ≡ suc k → (open_answer mode h salt).session ≡ blank
+pub a_refused_opening_is_blank : (k : ℕ) (mode : Mode) (h : ℕ) (salt : List ℕ) → open_refusal h (length salt) ≡ suc k
+    → (open_answer mode h salt).session ≡ blank
 a_refused_opening_is_blank = refusing.a_refused_opening_is_blank
 
 pub the_blank_session_is_none : is_session blank ≡ false

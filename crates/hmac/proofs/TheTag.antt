@@ -113,7 +113,8 @@ module _ (h : ℕ) (salt key : List ℕ) (a : admitted h ≡ true) (l : length s
   pieces_are_one pieces fits = ap (λ (t : TagSession). add_all_tag t pieces) opened_session ∙ all_joined [] pieces fits
 
   -- no piece is refused
-  pub every_piece_is_taken : (before : List (List ℕ)) (piece : List ℕ) (after : List (List ℕ)) → block_size h + length (joined (before ++ piece ∷ after)) ≤ limit
+  pub every_piece_is_taken : (before : List (List ℕ)) (piece : List ℕ) (after : List (List ℕ))
+      → block_size h + length (joined (before ++ piece ∷ after)) ≤ limit
       → (add_tag_answer (add_all_tag (open_tag_answer h salt key).session before) piece).refusal ≡ 0
   every_piece_is_taken before piece after fits =
       let all = joined_lengths before (piece ∷ after) in

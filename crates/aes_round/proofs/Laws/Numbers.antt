@@ -157,7 +157,8 @@ module _ (n : ℕ) where
       sym (are_numbers (bytes_of n l) l e (λ k hk. is_number (get_or l k 0) _ (h k) (λ p hp. sym (get_or_bytes_of l k p hk hp))))
 
 pub four_numbers : (s : List ℕ)
-    → number (λ p. get_or s (0 + p) 0) ∷ number (λ p. get_or s (4 + p) 0) ∷ number (λ p. get_or s (8 + p) 0) ∷ number (λ p. get_or s (12 + p) 0) ∷ [] ≡ numbers 4 s
+    → number (λ p. get_or s (0 + p) 0) ∷ number (λ p. get_or s (4 + p) 0) ∷ number (λ p. get_or s (8 + p) 0) ∷ number (λ p. get_or s (12 + p) 0) ∷ []
+    ≡ numbers 4 s
 unfolding numbers tab
 four_numbers s = refl
 
@@ -304,7 +305,8 @@ pub mix_numbers_are : (c : List ℕ) (w x y z : ℕ) → ((k : ℕ) → Fits w32
     → y ≡ number (λ p. mul 2 (byte_of (bit_xor (get_or c 2 0) (get_or c 3 0)) p))
     → z ≡ number (λ p. mul 2 (byte_of (bit_xor (get_or c 3 0) (get_or c 0 0)) p))
     → let t = bit_xor (bit_xor (get_or c 0 0) (get_or c 1 0)) (bit_xor (get_or c 2 0) (get_or c 3 0)) in
-    bit_xor (bit_xor (get_or c 0 0) t) w ∷ bit_xor (bit_xor (get_or c 1 0) t) x ∷ bit_xor (bit_xor (get_or c 2 0) t) y ∷ bit_xor (bit_xor (get_or c 3 0) t) z ∷ []
+    bit_xor (bit_xor (get_or c 0 0) t) w ∷ bit_xor (bit_xor (get_or c 1 0) t) x ∷ bit_xor (bit_xor (get_or c 2 0) t) y
+    ∷ bit_xor (bit_xor (get_or c 3 0) t) z ∷ []
     ≡ mix_numbers c
 unfolding xor
 mix_numbers_are c w x y z fits = mixed_rows c w x y z (λ k. (fits k).fits)

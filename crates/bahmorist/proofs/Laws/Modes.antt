@@ -96,7 +96,8 @@ module _ (n h : ℕ) (salt message room : List ℕ) where
       pub digest_passed_on : (r : ℕ) → r ≡ number → r ≡ number_in
       digest_passed_on r d = d ∙ sym same_number
 
-      pub digest_left_on : (mode : Mode) → mode ≡ mode_of n → (u : List ℕ) → u ≡ digest_leaves mode h salt message room → u ≡ digest_in_leaves n h salt message room
+      pub digest_left_on : (mode : Mode) → mode ≡ mode_of n → (u : List ℕ) → u ≡ digest_leaves mode h salt message room
+          → u ≡ digest_in_leaves n h salt message room
       unfolding digest_in_leaves
       digest_left_on mode m u l =
           l
@@ -147,7 +148,8 @@ module _ (n h : ℕ) (salt message : List ℕ) (count : ℕ) (room : List ℕ) w
         ∙ sym (digest_number h (length salt) (count / 8) (length room))
 
     module _ (none : t ≡ true) where
-      refused_by : bits_number_in ≡ unless (digest_refusal h (length salt) (count / 8) (length room)) 6 (digest_refusal h (length salt) (count / 8) (length room))
+      refused_by : bits_number_in
+          ≡ unless (digest_refusal h (length salt) (count / 8) (length room)) 6 (digest_refusal h (length salt) (count / 8) (length room))
       refused_by =
           listed_is true none
           ∙ six (not (admitted h)) (no_salt (length salt)) (ltb bit_limit count) (ltb (length room) (h / 8)) (set_below message count)

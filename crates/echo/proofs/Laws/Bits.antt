@@ -170,7 +170,8 @@ marking x (suc (suc (suc (suc (suc (suc zero)))))) h = omega arith
 marking x (suc (suc (suc (suc (suc (suc (suc zero))))))) h = omega arith
 marking x (suc (suc (suc (suc (suc (suc (suc (suc r)))))))) h = absurd (omega arith)
 
-pub marked_byte : (x r : ℕ) → Part x r → (rest : List ℕ) → packed (take r (byte_bits x) ++ (1 ∷ (replicate (7 - r) 0 ++ rest))) ≡ (x + 2 ^ (7 - r)) ∷ packed rest
+pub marked_byte : (x r : ℕ) → Part x r → (rest : List ℕ)
+    → packed (take r (byte_bits x) ++ (1 ∷ (replicate (7 - r) 0 ++ rest))) ≡ (x + 2 ^ (7 - r)) ∷ packed rest
 marked_byte x r P rest =
     let n : length (take r (byte_bits x) ++ (1 ∷ replicate (7 - r) 0)) ≡ 8 =
     omega (

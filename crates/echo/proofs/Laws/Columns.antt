@@ -97,7 +97,8 @@ module _ (m c₀ : List ℕ) where
   pub mixed_more : (b : ℕ) (c v : List ℕ) → v ≡ mix_column m (column_at c b) → Mixed b c → b < 16
       → Mixed (b + 1) (set (set (set (set c b (get_or v 0 0)) (16 + b) (get_or v 1 0)) (32 + b) (get_or v 2 0)) (48 + b) (get_or v 3 0))
   mixed_more b c v e M h =
-      subst (λ (i : ℕ). Mixed (b + 1) (set (set (set (set c i (get_or v 0 0)) (16 + b) (get_or v 1 0)) (32 + b) (get_or v 2 0)) (48 + b) (get_or v 3 0))) (zero-add b)
+      subst (λ (i : ℕ). Mixed (b + 1) (set (set (set (set c i (get_or v 0 0)) (16 + b) (get_or v 1 0)) (32 + b) (get_or v 2 0)) (48 + b) (get_or v 3 0)))
+      (zero-add b)
       (mixed_put b c v M h (e ∙ ap (mix_column m) (old_column b c M h)))
 
   pub mixed_all : (b : ℕ) (c : List ℕ) → Mixed b c → 16 ≤ b → c ≡ mix_words m c₀
@@ -137,7 +138,8 @@ module _ (m l : List ℕ) where
   unfolding Columns
   no_columns = fill_none 256 mixed_byte l
 
-  next_column : (j : ℕ) (s c t : List ℕ) → Columns j s → j < 4 → Placed s (64 * j) (mix_words m c) 64 t → ((k : ℕ) → k < 64 → get_or c k 0 ≡ get_or s (64 * j + k) 0)
+  next_column : (j : ℕ) (s c t : List ℕ) → Columns j s → j < 4 → Placed s (64 * j) (mix_words m c) 64 t
+      → ((k : ℕ) → k < 64 → get_or c k 0 ≡ get_or s (64 * j + k) 0)
       → Columns (j + 1) t
   unfolding Columns mixed_byte mix_words
   next_column j s c t F h P e =

@@ -119,7 +119,8 @@ module _ (mode : Mode) (h : ℕ) (salt : List ℕ) where
         (λ (l : List ℕ). iterate c (round_count mode c) salt v (block b (packed (l ++ padding (8 * b) h count))) (λ i. counter_at (8 * b) count (0 + i))
         (block_count (8 * b) count - 0))
         (sym (piece_bits m count S))
-        ∙ ap (iterate c (round_count mode c) salt v (block b (packed (take count (bits_of m) ++ padding (8 * b) h count))) (λ i. counter_at (8 * b) count (0 + i)))
+        ∙ ap (iterate c (round_count mode c) salt v (block b (packed (take count (bits_of m) ++ padding (8 * b) h count)))
+        (λ i. counter_at (8 * b) count (0 + i)))
         (omega arith)
         ∙ iterate_ext c (round_count mode c) salt v _ _ _ _ _ (λ i l. refl) (λ i l. ap (counter_at (8 * b) count) (zero-add i))
         ∙ ap

@@ -67,7 +67,9 @@ module _ (b : ℕ) (pos : 0 < b) (h L x : ℕ) (P : Part x (L % 8)) where
       omega (arith, bits_mod b pos (L + 144), part, ap (λ (n : ℕ). n % b) whole, mod-lt (L / 8 + 18) pos, P.few)
 
   lengths_packed : packed (bits_of (little_endian 2 h) ++ bits_of (little_endian 16 L)) ≡ lengths_of h L
-  lengths_packed = packed_bits (little_endian 2 h) (bits_of (little_endian 16 L)) ∙ ap (λ (l : List ℕ). little_endian 2 h ++ l) (packed_all (little_endian 16 L))
+  lengths_packed =
+      packed_bits (little_endian 2 h) (bits_of (little_endian 16 L))
+      ∙ ap (λ (l : List ℕ). little_endian 2 h ++ l) (packed_all (little_endian 16 L))
 
   pub packed_ending : packed (take (L % 8) (byte_bits x) ++ padding (8 * b) h L) ≡ ending b h L x
   unfolding padding

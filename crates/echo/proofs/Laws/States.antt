@@ -197,8 +197,8 @@ module _ (mode : Mode) (h : ℕ) (salt v rest : List ℕ) (q : ℕ) where
 
     pub state_final : (m : List ℕ) (x r : ℕ) → Part x r → (L : ℕ) → L ≡ 8 * count m + r
         → final_chaining (state_with m x r)
-        ≡ iterate c (round_count mode c) salt v (block b (packed ((bits_of m ++ take r (byte_bits x)) ++ padding (8 * b) h L))) (λ i. counter_at (8 * b) L (q + i))
-        (block_count (8 * b) L - q)
+        ≡ iterate c (round_count mode c) salt v (block b (packed ((bits_of m ++ take r (byte_bits x)) ++ padding (8 * b) h L)))
+        (λ i. counter_at (8 * b) L (q + i)) (block_count (8 * b) L - q)
     unfolding final_chaining state_with chained
     state_final m x r P L is =
         rw (← is, room_used m t, bits_left, packed_left, blocks, packed_all) (sym whole_is)

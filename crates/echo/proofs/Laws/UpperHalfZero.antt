@@ -62,7 +62,8 @@ module _ (key other : ℕ → List ℕ) (salt : List ℕ) where
       ap (rounds_back n key salt)
       (array_ext 16 _ _
       (λ i b hi hb.
-      ap (λ (k : List ℕ). get_or (aes_round_back (aes_round_back (word (big_shift_rows_back (big_mix_columns_back s)) i) salt) k) b 0) (A (16 * n + i) (here n i hi))))
+      ap (λ (k : List ℕ). get_or (aes_round_back (aes_round_back (word (big_shift_rows_back (big_mix_columns_back s)) i) salt) k) b 0)
+      (A (16 * n + i) (here n i hi))))
       ∙ rounds_back_agree n _ (less n A)
 
 -- a compression whose counter does not outgrow 64 bits
@@ -81,7 +82,8 @@ module _ (square : List ℕ) (count counter : ℕ) (salt : List ℕ) (r : ℕ) (
   counters : counter + 16 * count ≤ 2 ^ 64
   counters = rounds_counters square count salt _ refl within.0 counter within.1
 
-  pub same_rounds_refusal : (q : ℕ) → q ≡ rounds_wide_refusal (length square) count (length salt) → q ≡ rounds_refusal (length square) count counter (length salt)
+  pub same_rounds_refusal : (q : ℕ) → q ≡ rounds_wide_refusal (length square) count (length salt)
+      → q ≡ rounds_refusal (length square) count counter (length salt)
   same_rounds_refusal q p = p ∙ within.0 ∙ sym (sym e ∙ none)
 
   -- rounds f, forward or backward, to which only the subkeys that they use matter
@@ -99,7 +101,8 @@ module _ (square : List ℕ) (count counter : ℕ) (salt : List ℕ) (r : ℕ) (
   unfolding rounds_wide_leave rounds_leave
   same_rounds last p = p ∙ leave rounds rounds_agree
 
-  pub same_rounds_back : (last : List ℕ) → last ≡ rounds_back_wide_leave square count (halves counter 0) salt → last ≡ rounds_back_leave square count counter salt
+  pub same_rounds_back : (last : List ℕ) → last ≡ rounds_back_wide_leave square count (halves counter 0) salt
+      → last ≡ rounds_back_leave square count counter salt
   unfolding rounds_back_wide_leave rounds_back_leave
   same_rounds_back last p = p ∙ leave rounds_back rounds_back_agree
 

@@ -79,7 +79,8 @@ module _ (a b : List ℕ) where
   unfolding differing_bits
   none_differ e zero = refl
   none_differ e (suc i) =
-      ap₂ bit_or (none_differ e i) (ap (λ (l : List ℕ). bit_xor (get_or a i 0) (get_or l i 0)) (sym e) ∙ code_xor (get_or a i 0) (get_or a i 0) ∙ xor_self (get_or a i 0))
+      ap₂ bit_or (none_differ e i)
+      (ap (λ (l : List ℕ). bit_xor (get_or a i 0) (get_or l i 0)) (sym e) ∙ code_xor (get_or a i 0) (get_or a i 0) ∙ xor_self (get_or a i 0))
 
   pub same_by_bits : (d i n : ℕ) → d ≡ differing_bits a b i → n ≡ length a → length b ≡ n → i ≤ n → n ≤ i → eqb d 0 ≡ same a b
   same_by_bits d i n e la lb most least = by (eqb d 0) refl

@@ -225,7 +225,8 @@ all_in_front (r ∷ rs) q = in_front r (all_in_front rs q)
 
 -- the bytes of some records behind p are read as these, and then it goes on with what stands behind them
 through : (n : ℕ) (p : List ℕ) (rs : List Record) (tail : List ℕ) → AllFit rs → length (p ++ (table_of rs ++ tail)) ≤ 4096
-    → parse_from (length rs + n) (p ++ (table_of rs ++ tail)) (length p) ≡ all_in_front rs (parse_from n (p ++ (table_of rs ++ tail)) (length (p ++ table_of rs)))
+    → parse_from (length rs + n) (p ++ (table_of rs ++ tail)) (length p)
+    ≡ all_in_front rs (parse_from n (p ++ (table_of rs ++ tail)) (length (p ++ table_of rs)))
 unfolding parse_from t
 through n p [] tail f h = rw (zero-add n, append-nil p) refl
 through n p (r ∷ rs) tail f h =

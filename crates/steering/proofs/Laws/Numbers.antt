@@ -17,7 +17,8 @@ pub big_append : (a b : List ℕ) → big_endian (a ++ b) ≡ big_endian a * 256
 unfolding big_endian
 big_append [] b = rw (zero-mul, zero-add)
 big_append (x ∷ a) b =
-    rw (big_append a b, length-append a b, pow-add 256 (length a) (length b), add-mul (x * 256 ^ length a) (big_endian a) (256 ^ length b), add_assoc, mul_assoc)
+    rw
+    (big_append a b, length-append a b, pow-add 256 (length a) (length b), add-mul (x * 256 ^ length a) (big_endian a) (256 ^ length b), add_assoc, mul_assoc)
 
 module _ (at : ℕ) (l : List ℕ) where
   pub two_bytes : at + 2 ≤ length l → get_or l at 0 * 256 + get_or l (at + 1) 0 ≡ number_at 2 at l

@@ -7,7 +7,8 @@ use Rattle.lines.specs.Decimal.{decimal_of, significant}
 use Rattle.lines.proofs.decimal.put_decimal.Given as goal
 
 abbrev pub invariant-loop-rest : goal.invariant-loop-rest
-invariant-loop-rest l = (l.from ≤ 19) × (length l.digits ≡ 20) × (l.rest < 10 ^ l.from) × (decimal_of l.number ≡ significant l.from l.rest ++ drop l.from l.digits)
+invariant-loop-rest l =
+    (l.from ≤ 19) × (length l.digits ≡ 20) × (l.rest < 10 ^ l.from) × (decimal_of l.number ≡ significant l.from l.rest ++ drop l.from l.digits)
 
 abbrev pub decreases-loop-rest : goal.decreases-loop-rest
 decreases-loop-rest l = l.rest

@@ -240,13 +240,13 @@ BAHMORIST_INLINE const char *bahmorist_refusal_text(uint8_t number)
     case 2: return "the salt is not 16 bytes";
     case 3: return "the record is no session";
     case 4: return "the message, or a key, or key block and message together, is over 2^64 - 161 bits";
-    case 5: return "the output room, or the room from the place on, is too small";
+    case 5: return "the output room is too small";
     case 6:
-        return "no mode, sizes not the mode's, no square, not 8 or 10 rounds, bytes that are not those of the bits, or a place past the table's end";
+        return "no mode, sizes that are not the mode's, no square, a round count other than 8 and 10, or bytes that are not those of the bits";
     case 7: return "the starting counter is above 2^64 - 161";
     case 8: return "the table is over 4096 bytes";
-    case 9: return "a kind that no record has";
-    case 10: return "record cut short, or a body that is not as long as its kind's";
+    case 9: return "unknown kind byte";
+    case 10: return "record cut short";
     case 12: return "the address is 2^48 or more";
     case 16: return "a piece that is not empty follows a part byte";
     case 17: return "a bit is set behind the last one of the message";

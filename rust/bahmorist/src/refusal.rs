@@ -110,14 +110,14 @@ impl Display for Refusal {
             Refusal::Message => {
                 "the message, or a key, or key block and message together, is over 2^64 - 161 bits"
             }
-            Refusal::Room => "the output room, or the room from the place on, is too small",
+            Refusal::Room => "the output room is too small",
             Refusal::Shape => {
-                "no mode, sizes not the mode's, no square, not 8 or 10 rounds, bytes that are not those of the bits, or a place past the table's end"
+                "no mode, sizes that are not the mode's, no square, a round count other than 8 and 10, or bytes that are not those of the bits"
             }
             Refusal::Counter => "the starting counter is above 2^64 - 161",
             Refusal::Table => "the table is over 4096 bytes",
-            Refusal::Kind => "a kind that no record has",
-            Refusal::CutShort => "record cut short, or a body that is not as long as its kind's",
+            Refusal::Kind => "unknown kind byte",
+            Refusal::CutShort => "record cut short",
             Refusal::Address => "the address is 2^48 or more",
             Refusal::SetBits => "a bit is set behind the last one of the message",
             Refusal::Tag => "the tag is not the message's",
@@ -165,8 +165,8 @@ impl Error for NoRefusal {}
 /// ```
 /// use bahmorist::{Refusal, RefusedTable};
 ///
-/// let refused = RefusedTable { refusal: Refusal::Kind, place: 7 };
-/// assert_eq!(refused.to_string(), "a kind that no record has, at place 7");
+/// let refused = RefusedTable { refusal: Refusal::CutShort, place: 7 };
+/// assert_eq!(refused.to_string(), "record cut short, at place 7");
 /// ```
 #[derive(Debug, Clone, Copy, PartialEq, Eq, Hash)]
 pub struct RefusedTable {

@@ -1,9 +1,14 @@
 // Descriptors that the program was started with, by their numbers. std hands out none that it did not open itself, so Linux's files of them stand for them.
+ghost use Rattle.std.specs.Prelude.{◌≡◌, ◌<ℤ◌, None, pos};
+
 use super::reading::read_full;
 use std::fs::File;
 
 // The file that opens the descriptor once more.
-pub(crate) fn name_of(descriptor: i32) -> Option<&'static str> {
+pub(crate) fn name_of(descriptor: i32) -> Option<&'static str>
+    ensures low { descriptor <ℤ pos 3 → result ≡ None }
+    ensures high { pos 9 <ℤ descriptor → result ≡ None }
+{
     match descriptor {
         3 => Some("/dev/fd/3"),
         4 => Some("/dev/fd/4"),

@@ -26,7 +26,9 @@ impl Read for Source {
     }
 }
 
-pub fn standard_input(rt: &HostRuntime) -> Source {
+pub fn standard_input(rt: &HostRuntime) -> Source
+    ensures { (input : _) × (result ≡ Source.Input input) }
+{
     Source::Input(rt.stdin())
 }
 

@@ -1,5 +1,5 @@
 // Writing to the standard streams, and to a descriptor by its number.
-ghost use Rattle.std.specs.Prelude.{OnOk};
+ghost use Rattle.std.specs.Prelude.{◌≡◌, ◌<ℤ◌, Err, OnOk, pos};
 ghost use Rattle.std.specs.Io.KnownBytes.{Appends};
 
 use super::descriptors::{is_for_writing, name_of};
@@ -33,9 +33,12 @@ pub fn say(rt: &HostRuntime, bytes: &[u8]) -> Result<(), i32> {
     write_all(&mut rt.stderr(), bytes)
 }
 
-// Writes to the descriptor of a number from 3 to 9 where that is open for writing. It is opened once more, by its name: std has no other way to one that
-// it did not open. What is a file is written behind its end, and not where the descriptor stands.
-pub fn write_to(rt: &HostRuntime, descriptor: i32, bytes: &[u8]) -> Result<(), i32> {
+// Writes to the descriptor of a number from 3 to 9 where that is open for writing; with any other it answers 9. It is opened once more, by its name:
+// std has no other way to one that it did not open. What is a file is written behind its end, and not where the descriptor stands.
+pub fn write_to(rt: &HostRuntime, descriptor: i32, bytes: &[u8]) -> Result<(), i32>
+    ensures low { descriptor <ℤ pos 3 → result ≡ Err (pos 9) }
+    ensures high { pos 9 <ℤ descriptor → result ≡ Err (pos 9) }
+{
     let Some(name) = name_of(descriptor) else {
         return Err(NO_DESCRIPTOR);
     };

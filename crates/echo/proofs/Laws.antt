@@ -6,6 +6,7 @@ pub mod Admitted
 pub mod Numbers
 pub mod Counter
 pub mod Placed
+pub mod Answers
 pub mod Refusals
 pub mod Lowest
 pub mod Square

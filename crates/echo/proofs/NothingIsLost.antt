@@ -92,9 +92,9 @@ module _ (mode : Mode) (chaining block salt : List ℕ) where
       (fold (length chaining) (rounds (round_count mode (length chaining)) key salt (chaining ++ block)))
   by_folds key z =
       new_chaining_value (length chaining) (256 / length chaining - 1) (round_count mode (length chaining)) key salt chaining block
-      (compress_some mode chaining block salt _ refl z) refl
+      (compress_some mode chaining block salt (sym z)) refl
       (block_parts (length chaining) (length block) (256 / length chaining)
-      (compress_square mode chaining block salt _ refl z) (compress_parts mode chaining block salt _ refl z))
+      (compress_square mode chaining block salt (sym z)) (compress_parts mode chaining block salt (sym z)))
 
   module _ (counter : ℕ) where
     pub compress_leaves_the_folds : compress_refusal mode (length chaining) (length block) counter (length salt) ≡ 0
@@ -123,7 +123,7 @@ module _ (chaining block : List ℕ) (counter : ℕ) (salt : List ℕ)
         ∙ ap (λ (x : ℕ). compress x (round_count SinglePipe x) (keys_from counter) salt chaining block) l
         ∙ ap (λ (x : ℕ). compress c x (keys_from counter) salt chaining block) r,
     ap (λ (x : ℕ). x + length block) (sym l)
-        ∙ compress_square SinglePipe chaining block salt _ refl (compress_within SinglePipe (length chaining) (length block) counter (length salt) z).0,
+        ∙ compress_square SinglePipe chaining block salt (sym (compress_within SinglePipe (length chaining) (length block) counter (length salt) z).0),
   )
 
   pub compress_leaves_section_5_1 : length chaining ≡ 32

@@ -1,9 +1,9 @@
 -- What the crates above may cite of this one, besides its specs, its contracts and its theorems (Theorems.antt): each promise is in the words of specs/,
 -- and its proof is a law of this crate. Assumes nothing.
-use Rattle.std.proofs.Common.{◌≡◌, ℕ, ◌+◌, ◌*◌, ◌/◌, ◌%◌, ◌<◌, ◌≤◌, Bool, true, not, ◌&&◌, ltb, List, [], ◌∷◌, ◌++◌, length, drop, sym, refl}
+use Rattle.std.proofs.Common.{◌≡◌, ℕ, ◌+◌, ◌*◌, ◌/◌, ◌%◌, ◌<◌, ◌≤◌, Bool, true, not, ◌&&◌, ltb, List, [], ◌∷◌, ◌++◌, length, drop, sym}
 use Rattle.echo.specs.declared.mode.Mode.{Mode}
 use Rattle.echo.specs.declared.mode.Mode.TheVariants.{DoublePipe}
-use Rattle.echo.specs.declared.session.Answer.{Answer}
+use Rattle.echo.specs.Answers.{Answer}
 use Rattle.echo.specs.declared.session.Session.{Session}
 use Rattle.echo.specs.Digest.{digest_of}
 use Rattle.echo.specs.Families.{block_size, sizes_fit}
@@ -69,7 +69,7 @@ pub done : {A : Type 0} (n : ℕ) (a b : A) → n ≡ 0 → unless n a b ≡ a
 done = refusals.done
 
 pub kept : {A : Type 0} (n : ℕ) (a b : A) → (n ≡ 0 → ⊥) → unless n a b ≡ b
-kept n a b some = sym (refusals.refused n n a b refl some)
+kept n a b some = sym (refusals.kept n a b some)
 
 -- ---- the refusals in order
 

@@ -4,7 +4,7 @@
 -- reading changes nothing, and an empty piece changes nothing. The sessions are those that the calls hand back. Assumes nothing.
 use Rattle.std.proofs.Common.{◌≡◌, ℕ, zero, suc, ◌+◌, ◌*◌, ◌/◌, ◌%◌, ◌≤◌, Bool, true, false, not, ◌&&◌, eqb, ◌⊎◌, List, [], ◌∷◌, ◌++◌, length, take, drop, sym, refl, ap, ◌∙◌, ap₂, ⊎_elim, append_assoc, append-nil, add-zero, arith, length-append, take_all}
 use Rattle.echo.specs.declared.mode.Mode.{Mode}
-use Rattle.echo.specs.declared.session.Answer.{Answer}
+use Rattle.echo.specs.Answers.{Answer}
 use Rattle.echo.specs.declared.session.Session.{Session}
 use Rattle.echo.specs.Bits.{bits_of}
 use Rattle.echo.specs.Digest.{bit_digest_of, digest_of}
@@ -53,7 +53,7 @@ an_empty_piece_changes_nothing s = by (add_bits_refusal s [] 0) refl
 empty_taken : (s : Session) → is_session s ≡ true → add_bits_answer s [] 0 ≡ record { refusal = 0; session = s }
 unfolding bits_of all_zero
 empty_taken s is =
-    sym (added s [] 0 0 (sym (nothing_refused s [] 0 able)) refl (add_bits s [] 0) refl)
+    sym (added s [] 0 (sym (nothing_refused s [] 0 able)) (add_bits s [] 0) refl)
     ∙ ap (λ (t : Session). record { refusal = 0; session = t }) (add_no_bits s)
   where
     last : (t : Bool) → (not t && not (eqb 0 0)) ≡ false
@@ -187,5 +187,5 @@ module _ (mode : Mode) (h : ℕ) (salt : List ℕ) (a : admitted h ≡ true) (l 
   unfolding digest_bits_leaves
   at_once_is_the_digest_in_bits message count room S m r =
       let less = digest_0 h (length salt) (count / 8) (length room) true (sym a) refl l (omega arith) r in
-      let n = sym (digest_bits_0 h (length salt) message count (length room) 0 less refl S.size true (sym S.clear) refl) in
+      let n = sym (digest_bits_0 h (length salt) message count (length room) less S.size true (sym S.clear) refl) in
       (n, done _ (bit_digest_of mode h salt (take count (bits_of message)) ++ drop (h / 8) room) room n)

@@ -4,6 +4,7 @@ pub mod Bits
 pub mod Numbers
 pub mod Families
 pub mod Refusals
+pub mod Answers
 pub mod Square
 pub mod Compression
 pub mod SinglePipe

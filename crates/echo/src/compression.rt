@@ -1,6 +1,7 @@
 // Compression (sections 3 to 5), over the size of the chaining variable.
 ghost use Rattle.std.specs.Prelude.{◌≡◌, ◌+◌, ◌*◌, ◌/◌, ◌^◌, ◌<◌, ◌≤◌, length};
 ghost use Rattle.aes_round.specs.Bytes.{xor_bytes};
+ghost use Rattle.echo.specs.Answers.{refusal_of};
 ghost use Rattle.echo.specs.Compression.{fold};
 ghost use Rattle.echo.specs.Compression.{compress as Compression·compress};
 ghost use Rattle.echo.specs.Families.{round_count};
@@ -12,7 +13,8 @@ use super::counter::Counter;
 use super::families::chaining_size;
 use super::lent::{copy_in, sixteen};
 use super::mode::Mode;
-use super::refusals::{compress_refusal, compress_wide_refusal};
+use super::refusal::Refusal;
+use super::refusals::{check_compress, check_compress_wide};
 use super::run::run;
 
 // Xors src into v.
@@ -90,8 +92,8 @@ pub(crate) fn round_count(mode: Mode, chaining: usize) -> u64
     }
 }
 
-// Rewrites the chaining variable by one block, whose counter has these halves and counts on modulo 2^128, and answers 0; or refuses by 2 or 6 and
-// leaves it. Sizes are 64 and 192 bytes or 128 and 128 in double-pipe, 32 and 224 or 64 and 192 in single-pipe.
+// Rewrites the chaining variable by one block, whose counter has these halves and counts on modulo 2^128. Refused as `NoSalt` or
+// `WrongSize`, it leaves the variable. Sizes are 64 and 192 bytes or 128 and 128 in double-pipe, 32 and 224 or 64 and 192 in single-pipe.
 pub fn compress_wide(
     mode: Mode,
     chaining: &mut [u8],
@@ -99,15 +101,12 @@ pub fn compress_wide(
     low: u64,
     high: u64,
     salt: &[u8],
-) -> u8
-    ensures refusal { result ≡ compress_wide_refusal mode (length chaining.old) (length block.now) (length salt.now) }
+) -> Result<(), Refusal>
+    ensures refusal { refusal_of result ≡ compress_wide_refusal mode (length chaining.old) (length block.now) (length salt.now) }
     ensures left { chaining.new ≡ compress_wide_leaves mode chaining.old block.now (halves low high) salt.now }
 {
     let c = chaining.len();
-    let refusal = compress_wide_refusal(mode, c, block.len(), salt.len());
-    if refusal != 0 {
-        return refusal;
-    }
+    check_compress_wide(mode, c, block.len(), salt.len())?;
     compress_wide_in(
         chaining,
         block,
@@ -115,17 +114,20 @@ pub fn compress_wide(
         Counter { low, high },
         sixteen(salt, 0),
     );
-    0
+    Ok(())
 }
 
-// From a counter of 64 bits: `compress_wide` with the upper half zero, behind a bound on the counter, above which it refuses by 7.
-pub fn compress(mode: Mode, chaining: &mut [u8], block: &[u8], counter: u64, salt: &[u8]) -> u8
-    ensures refusal { result ≡ compress_refusal mode (length chaining.old) (length block.now) counter (length salt.now) }
+// From a counter of 64 bits: `compress_wide` with the upper half zero, behind a bound on the counter, above which it is refused as `CounterTooHigh`.
+pub fn compress(
+    mode: Mode,
+    chaining: &mut [u8],
+    block: &[u8],
+    counter: u64,
+    salt: &[u8],
+) -> Result<(), Refusal>
+    ensures refusal { refusal_of result ≡ compress_refusal mode (length chaining.old) (length block.now) counter (length salt.now) }
     ensures left { chaining.new ≡ compress_leaves mode chaining.old block.now counter salt.now }
 {
-    let refusal = compress_refusal(mode, chaining.len(), block.len(), counter, salt.len());
-    if refusal != 0 {
-        return refusal;
-    }
+    check_compress(mode, chaining.len(), block.len(), counter, salt.len())?;
     compress_wide(mode, chaining, block, counter, 0, salt)
 }

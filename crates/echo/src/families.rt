@@ -8,13 +8,7 @@ use super::mode::Mode;
 pub(crate) fn admitted(bits: u64) -> bool
     ensures { result ≡ Session·admitted bits }
 {
-    if bits < 128 {
-        return false;
-    }
-    if 512 < bits {
-        return false;
-    }
-    bits % 8 == 0
+    128 <= bits && bits <= 512 && bits % 8 == 0
 }
 
 pub(crate) fn chaining_size(mode: Mode, bits: u64) -> usize

@@ -1,5 +1,6 @@
 // Runs of BIG.Round, forward and backward.
 ghost use Rattle.std.specs.Prelude.{◌≡◌, ◌*◌, ◌^◌, ◌≤◌, length};
+ghost use Rattle.echo.specs.Answers.{refusal_of};
 ghost use Rattle.echo.specs.Numbers.{halves};
 ghost use Rattle.echo.specs.Routines.{rounds_back_leave, rounds_back_wide_leave, rounds_leave, rounds_refusal, rounds_wide_leave, rounds_wide_refusal};
 ghost use Rattle.echo.specs.Square.{wide_keys_from};
@@ -8,7 +9,8 @@ ghost use Rattle.echo.specs.Square.{rounds as Square·rounds, rounds_back as Squ
 use super::counter::Counter;
 use super::lent::sixteen;
 use super::mix_columns::mix_columns_back;
-use super::refusals::{rounds_refusal, rounds_wide_refusal};
+use super::refusal::Refusal;
+use super::refusals::{check_rounds, check_rounds_wide};
 use super::run_by_bytes::run_by_bytes;
 use super::run_by_tables::run_by_tables;
 use super::shift_rows::shift_rows_back;
@@ -38,70 +40,72 @@ fn run_back(s: &mut [u8], count: u64, counter: Counter, salt: [u8; 16])
     }
 }
 
-// Rewrites the square by 8 or 10 rounds that count on from the counter of these halves, modulo 2^128, and answers 0; or refuses by 2 or 6 and
-// leaves it.
-pub fn rounds_wide(square: &mut [u8], count: u64, low: u64, high: u64, salt: &[u8]) -> u8
-    ensures refusal { result ≡ rounds_wide_refusal (length square.old) count (length salt.now) }
+// Rewrites the square by 8 or 10 rounds that count on from the counter of these halves, modulo 2^128. Refused as `NoSalt` or `WrongSize`, it
+// leaves the square.
+pub fn rounds_wide(
+    square: &mut [u8],
+    count: u64,
+    low: u64,
+    high: u64,
+    salt: &[u8],
+) -> Result<(), Refusal>
+    ensures refusal { refusal_of result ≡ rounds_wide_refusal (length square.old) count (length salt.now) }
     ensures left { square.new ≡ rounds_wide_leave square.old count (halves low high) salt.now }
 {
-    let refusal = rounds_wide_refusal(square.len(), count, salt.len());
-    if refusal != 0 {
-        return refusal;
-    }
+    check_rounds_wide(square.len(), count, salt.len())?;
     run(square, count, Counter { low, high }, sixteen(salt, 0));
-    0
+    Ok(())
 }
 
 // The way back: the square that `rounds_wide` took to this one, for the same count, starting counter and salt.
-pub fn rounds_back_wide(square: &mut [u8], count: u64, low: u64, high: u64, salt: &[u8]) -> u8
-    ensures refusal { result ≡ rounds_wide_refusal (length square.old) count (length salt.now) }
+pub fn rounds_back_wide(
+    square: &mut [u8],
+    count: u64,
+    low: u64,
+    high: u64,
+    salt: &[u8],
+) -> Result<(), Refusal>
+    ensures refusal { refusal_of result ≡ rounds_wide_refusal (length square.old) count (length salt.now) }
     ensures left { square.new ≡ rounds_back_wide_leave square.old count (halves low high) salt.now }
 {
-    let refusal = rounds_wide_refusal(square.len(), count, salt.len());
-    if refusal != 0 {
-        return refusal;
-    }
+    check_rounds_wide(square.len(), count, salt.len())?;
     run_back(square, count, Counter { low, high }, sixteen(salt, 0));
-    0
+    Ok(())
 }
 
-// From a counter of 64 bits: `rounds_wide` with the upper half zero, behind a bound on the counter, above which it refuses by 7.
-pub fn rounds(square: &mut [u8], count: u64, counter: u64, salt: &[u8]) -> u8
-    ensures refusal { result ≡ rounds_refusal (length square.old) count counter (length salt.now) }
+// From a counter of 64 bits: `rounds_wide` with the upper half zero, behind a bound on the counter, above which it is refused as `CounterTooHigh`.
+pub fn rounds(square: &mut [u8], count: u64, counter: u64, salt: &[u8]) -> Result<(), Refusal>
+    ensures refusal { refusal_of result ≡ rounds_refusal (length square.old) count counter (length salt.now) }
     ensures left { square.new ≡ rounds_leave square.old count counter salt.now }
 {
-    let refusal = rounds_refusal(square.len(), count, counter, salt.len());
-    if refusal != 0 {
-        return refusal;
-    }
+    check_rounds(square.len(), count, counter, salt.len())?;
     rounds_wide(square, count, counter, 0, salt)
 }
 
 // The same byte by byte, whichever path `rounds` takes: slower, and with a sixth of the stack.
-pub fn rounds_by_bytes(square: &mut [u8], count: u64, counter: u64, salt: &[u8]) -> u8
-    ensures refusal { result ≡ rounds_refusal (length square.old) count counter (length salt.now) }
+pub fn rounds_by_bytes(
+    square: &mut [u8],
+    count: u64,
+    counter: u64,
+    salt: &[u8],
+) -> Result<(), Refusal>
+    ensures refusal { refusal_of result ≡ rounds_refusal (length square.old) count counter (length salt.now) }
     ensures left { square.new ≡ rounds_leave square.old count counter salt.now }
 {
-    let refusal = rounds_refusal(square.len(), count, counter, salt.len());
-    if refusal != 0 {
-        return refusal;
-    }
+    check_rounds(square.len(), count, counter, salt.len())?;
     let start = Counter {
         low: counter,
         high: 0,
     };
     run_by_bytes(square, count, start, sixteen(salt, 0));
-    0
+    Ok(())
 }
 
 // The way back: the square that `rounds` took to this one, for the same count, starting counter and salt; `rounds_back_wide` likewise.
-pub fn rounds_back(square: &mut [u8], count: u64, counter: u64, salt: &[u8]) -> u8
-    ensures refusal { result ≡ rounds_refusal (length square.old) count counter (length salt.now) }
+pub fn rounds_back(square: &mut [u8], count: u64, counter: u64, salt: &[u8]) -> Result<(), Refusal>
+    ensures refusal { refusal_of result ≡ rounds_refusal (length square.old) count counter (length salt.now) }
     ensures left { square.new ≡ rounds_back_leave square.old count counter salt.now }
 {
-    let refusal = rounds_refusal(square.len(), count, counter, salt.len());
-    if refusal != 0 {
-        return refusal;
-    }
+    check_rounds(square.len(), count, counter, salt.len())?;
     rounds_back_wide(square, count, counter, 0, salt)
 }

@@ -1,5 +1,6 @@
 // Sessions: a digest over the pieces of a message.
-ghost use Rattle.std.specs.Prelude.{◌≡◌, length};
+ghost use Rattle.std.specs.Prelude.{◌≡◌, ◌&&◌, ◌==◌, length, not};
+ghost use Rattle.echo.specs.Answers.{answer_of, refusal_of};
 ghost use Rattle.echo.specs.Session.{add_answer, add_bits_answer, add_bits_refusal, behind_part, blank, is_session, open_answer, read_answer, read_leaves};
 
 use super::bits::zero_bits_from;
@@ -8,6 +9,7 @@ use super::initial::initial;
 use super::last_blocks::finish;
 use super::lent::{copy_in, sixteen};
 use super::mode::Mode;
+use super::refusal::Refusal;
 use super::refusals::{BIT_LIMIT, LIMIT};
 use super::waiting::{absorb, zeros_from};
 
@@ -26,21 +28,26 @@ pub struct Session {
     pub waiting: [u8; 224],
 }
 
-// What a call answers: a refusal number, 0 for none, and the session.
+// Why a call is refused, and the session as it came.
 #[derive(Clone, Copy)]
-pub struct Answer {
-    pub refusal: u8,
+pub struct Refused {
+    pub refusal: Refusal,
     pub session: Session,
+}
+
+impl From<Refused> for Refusal {
+    ghost from_gives = { λ refused refusal. refusal ≡ refused.refusal };
+
+    fn from(refused: Refused) -> Refusal {
+        refused.refusal
+    }
 }
 
 // Whether so many bits would stand behind a part byte.
 fn behind_part(taken: u64, count: u64) -> bool
     ensures { result ≡ behind_part taken count }
 {
-    if taken % 8 == 0 {
-        return false;
-    }
-    count != 0
+    taken % 8 != 0 && count != 0
 }
 
 impl Session {
@@ -58,168 +65,124 @@ impl Session {
         }
     }
 
-    // A session for digests of so many bits in a mode under a salt; or the blank one with 1 (bits not admitted) or 2 (salt not 16 bytes).
-    pub fn open(mode: Mode, bits: u64, salt: &[u8]) -> Answer
-        ensures { result ≡ open_answer mode bits salt.now }
+    // Itself, handed back as it came.
+    fn refused(self, refusal: Refusal) -> Refused
+        ensures { result ≡ record { refusal = refusal; session = self } }
+    {
+        Refused {
+            refusal,
+            session: self,
+        }
+    }
+
+    // A session for digests of so many bits in a mode under a salt. Refused as `NotAdmitted` or `NoSalt`, it hands the blank one out.
+    pub fn open(mode: Mode, bits: u64, salt: &[u8]) -> Result<Session, Refused>
+        ensures { answer_of result ≡ open_answer mode bits salt.now }
     {
         if !admitted(bits) {
-            let none = Session::blank();
-            return Answer {
-                refusal: 1,
-                session: none,
-            };
+            return Err(Session::blank().refused(Refusal::NotAdmitted));
         }
         if salt.len() != 16 {
-            let none = Session::blank();
-            return Answer {
-                refusal: 2,
-                session: none,
-            };
+            return Err(Session::blank().refused(Refusal::NoSalt));
         }
-        let own = sixteen(salt, 0);
-        let v = initial(mode, bits);
-        let opened = Session {
-            mode: mode,
-            bits: bits,
-            salt: own,
-            chaining: v,
+        Ok(Session {
+            mode,
+            bits,
+            salt: sixteen(salt, 0),
+            chaining: initial(mode, bits),
             taken: 0,
             waiting: [0; 224],
-        };
-        Answer {
-            refusal: 0,
-            session: opened,
-        }
+        })
     }
 
     // Whether the record is a session.
     pub fn is_session(self) -> bool
         ensures { result ≡ is_session self }
     {
-        let mode = self.mode;
-        let bits = self.bits;
-        let taken = self.taken;
-        if !admitted(bits) {
+        if !admitted(self.bits) || BIT_LIMIT < self.taken {
             return false;
         }
-        if BIT_LIMIT < taken {
-            return false;
-        }
-        let within = taken % (8 * (block_size(mode, bits) as u64));
-        let w = self.waiting;
-        if !zero_bits_from(&w, within) {
-            return false;
-        }
-        let v = self.chaining;
-        zeros_from(&v, chaining_size(mode, bits))
+        let within = self.taken % (8 * (block_size(self.mode, self.bits) as u64));
+        zero_bits_from(&self.waiting, within)
+            && zeros_from(&self.chaining, chaining_size(self.mode, self.bits))
     }
 
-    // What adding so many bits of a piece is refused for, 0 for nothing.
-    fn add_bits_refusal(self, piece: &[u8], count: u64) -> u8
-        ensures { result ≡ add_bits_refusal self piece.now count }
+    // What adding so many bits of a piece is refused for.
+    fn check_add_bits(self, piece: &[u8], count: u64) -> Result<(), Refusal>
+        ensures { refusal_of result ≡ add_bits_refusal self piece.now count }
     {
         if !self.is_session() {
-            return 3;
+            return Err(Refusal::NoSession);
         }
-        let taken = self.taken;
-        if BIT_LIMIT - taken < count {
-            return 4;
+        if BIT_LIMIT - self.taken < count {
+            return Err(Refusal::TooLong);
         }
         if piece.len() as u64 != (count + 7) / 8 {
-            return 6;
+            return Err(Refusal::WrongSize);
         }
-        if behind_part(taken, count) {
-            return 16;
+        if behind_part(self.taken, count) {
+            return Err(Refusal::BehindPart);
         }
         if !zero_bits_from(piece, count) {
-            return 17;
+            return Err(Refusal::SetBelow);
         }
-        0
+        Ok(())
     }
 
-    // The session with so many bits, the first of the piece's bytes, joined to its message; or the same with 3 (no session), 4 (too long), 6
-    // (bytes that are not the bit count over 8, rounded up), 16 (a piece behind a part byte) or 17 (a set bit below the last one used).
-    pub fn add_bits(self, piece: &[u8], count: u64) -> Answer
-        ensures { result ≡ add_bits_answer self piece.now count }
+    // The session with so many bits, the first of the piece's bytes, joined to its message. Refused as `NoSession`, `TooLong`, `WrongSize` (bytes
+    // that are not the bit count over 8, rounded up), `BehindPart` or `SetBelow`.
+    pub fn add_bits(self, piece: &[u8], count: u64) -> Result<Session, Refused>
+        ensures { answer_of result ≡ add_bits_answer self piece.now count }
     {
-        let refusal = self.add_bits_refusal(piece, count);
-        if refusal != 0 {
-            return Answer {
-                refusal: refusal,
-                session: self,
-            };
+        if let Err(refusal) = self.check_add_bits(piece, count) {
+            return Err(self.refused(refusal));
         }
-        let mode = self.mode;
-        let bits = self.bits;
-        let salt = self.salt;
-        let taken = self.taken;
-        let mut v = self.chaining;
-        let mut w = self.waiting;
-        absorb(&mut v, &mut w, piece, count, mode, bits, taken, salt);
-        Answer {
-            refusal: 0,
-            session: Session {
-                mode: mode,
-                bits: bits,
-                salt: salt,
-                chaining: v,
-                taken: taken + count,
-                waiting: w,
-            },
-        }
+        let mut added = self;
+        absorb(
+            &mut added.chaining,
+            &mut added.waiting,
+            piece,
+            count,
+            self.mode,
+            self.bits,
+            self.taken,
+            self.salt,
+        );
+        added.taken += count;
+        Ok(added)
     }
 
-    // The session with a piece of whole bytes joined to its message, or the same with 3 (no session), 4 (too long) or 16 (a piece behind a part
-    // byte).
-    pub fn add(self, piece: &[u8]) -> Answer
-        ensures { result ≡ add_answer self piece.now }
+    // The session with a piece of whole bytes joined to its message. Refused as `NoSession`, `TooLong` or `BehindPart`.
+    pub fn add(self, piece: &[u8]) -> Result<Session, Refused>
+        ensures { answer_of result ≡ add_answer self piece.now }
     {
         let n = piece.len() as u64;
-        if LIMIT < n {
-            if self.is_session() {
-                return Answer {
-                    refusal: 4,
-                    session: self,
-                };
-            }
-            return Answer {
-                refusal: 3,
-                session: self,
-            };
+        if n <= LIMIT {
+            return self.add_bits(piece, 8 * n);
         }
-        self.add_bits(piece, 8 * n)
+        if !self.is_session() {
+            return Err(self.refused(Refusal::NoSession));
+        }
+        Err(self.refused(Refusal::TooLong))
     }
 
-    // The digest of the message so far, at the front of `out`, whose bytes behind it stay; or 3 (no session) or 5 (too little room) and
-    // nothing written. The session is handed back as it came.
-    pub fn read(self, out: &mut [u8]) -> Answer
-        ensures answer { result ≡ read_answer self (length out.old) }
+    // Puts the digest of the message so far at the front of `out`, whose bytes behind it stay, and hands the session back as it came. Refused as
+    // `NoSession` or `NoRoom`, it writes nothing.
+    pub fn read(self, out: &mut [u8]) -> Result<Session, Refused>
+        ensures answer { answer_of result ≡ read_answer self (length out.old) }
         ensures left { out.new ≡ read_leaves self out.old }
     {
         if !self.is_session() {
-            return Answer {
-                refusal: 3,
-                session: self,
-            };
+            return Err(self.refused(Refusal::NoSession));
         }
-        let bits = self.bits;
-        let n = (bits / 8) as usize;
+        let n = (self.bits / 8) as usize;
         if out.len() < n {
-            return Answer {
-                refusal: 5,
-                session: self,
-            };
+            return Err(self.refused(Refusal::NoRoom));
         }
-        let mode = self.mode;
-        let salt = self.salt;
-        let taken = self.taken;
         let mut v = self.chaining;
         let mut w = self.waiting;
-        finish(&mut v, &mut w, mode, bits, taken, salt);
+        finish(&mut v, &mut w, self.mode, self.bits, self.taken, self.salt);
         copy_in(out, 0, &v[..n]);
-        Answer {
-            refusal: 0,
-            session: self,
-        }
+        Ok(self)
     }
 }

@@ -4,7 +4,7 @@ use Rattle.std.proofs.Common.{◌≡◌, ℕ, suc, ◌+◌, ◌-◌, ◌*◌, �
 use native.Mathlib.Nat.{div-add-mod, div-eq_of_lt}
 use lib.Seq.{split_at}
 use Rattle.echo.specs.declared.mode.Mode.{Mode}
-use Rattle.echo.specs.declared.session.Answer.{Answer}
+use Rattle.echo.specs.Answers.{Answer}
 use Rattle.echo.specs.declared.session.Session.{Session}
 use Rattle.echo.specs.Bits.{bits_of, byte_bits, packed}
 use Rattle.echo.specs.Digest.{block, block_count, counter_at, iterate}
@@ -213,7 +213,7 @@ module _ (s : Session) (is : is_session s ≡ true) (lc : length s.chaining ≡ 
     bits_stay = ap (λ (t : Session). t.bits) behind.state
 
     is_added : add_bits_answer s piece count ≡ record { refusal = 0; session = add_bits s piece count }
-    is_added = sym (added s piece count 0 (sym (nothing_refused s piece count A)) refl (add_bits s piece count) refl)
+    is_added = sym (added s piece count (sym (nothing_refused s piece count A)) (add_bits s piece count) refl)
 
     pub continues : (room : List ℕ) → h / 8 ≤ length room
         → ((add_bits_answer s piece count).refusal ≡ 0)

@@ -1,7 +1,8 @@
 -- A session as a plain list of the bits added: what opening, adding and reading answer on it. Assumes nothing.
 use Rattle.std.proofs.Common.{◌≡◌, ℕ, ◌+◌, ◌*◌, ◌/◌, ◌%◌, ◌<◌, ◌≤◌, Bool, true, not, ◌&&◌, eqb, List, [], ◌∷◌, ◌++◌, length, take, drop, sym, refl, ap, ◌∙◌, zero-add, arith, length-append, eq-eqb}
 use Rattle.echo.specs.declared.mode.Mode.{Mode}
-use Rattle.echo.specs.declared.session.Answer.{Answer}
+use Rattle.echo.specs.declared.refusal.Refusal.TheVariants.{TooLong}
+use Rattle.echo.specs.Answers.{Answer}
 use Rattle.echo.specs.declared.session.Session.{Session}
 use Rattle.echo.specs.Bits.{bits_of}
 use Rattle.echo.specs.Digest.{bit_digest_of, digest_of}
@@ -61,13 +62,13 @@ module _ (s : Session) (piece : List ℕ) (is : is_session s ≡ true) where
         sized = whole_sized piece;
         ends = ap (λ (t : Bool). not t && not (eqb (8 * length piece) 0)) (eq-eqb (s.taken % 8) 0 whole);
       } in
-      sym (added s piece (8 * length piece) 0 (sym (nothing_refused s piece (8 * length piece) able)) refl _ (sym (add_whole s piece)))
+      sym (added s piece (8 * length piece) (sym (nothing_refused s piece (8 * length piece) able)) _ (sym (add_whole s piece)))
 
   pub refuses_bytes : bit_limit < s.taken + 8 * length piece → ◌≡◌ {A = Answer} (add_answer s piece) (record { refusal = 4; session = s })
   unfolding add_answer
   refuses_bytes long =
       let few = (session_fits s is).taken_fits in
-      sym (not_added s piece (8 * length piece) 4 (add_4 s piece (8 * length piece) true (sym is) refl (omega (arith, few))) (λ z. omega arith))
+      sym (not_added s piece (8 * length piece) TooLong (add_4 s piece (8 * length piece) true (sym is) refl (omega (arith, few))))
 
 -- ---- any session, read into any room
 
@@ -103,7 +104,7 @@ module _ (mode : Mode) (h : ℕ) (salt : List ℕ) (a : admitted h ≡ true) whe
         sized = S;
         ends = ap (λ (t : Bool). not t && not (eqb count 0)) (eq-eqb (s.taken % 8) 0 whole);
       } in
-      sym (added s piece count 0 (sym (nothing_refused s piece count able)) refl _ (sym (add_behind (opened mode h salt) m piece count)))
+      sym (added s piece count (sym (nothing_refused s piece count able)) _ (sym (add_behind (opened mode h salt) m piece count)))
 
   -- whole bytes
   pub takes : (m piece : List ℕ) → length m + length piece ≤ limit

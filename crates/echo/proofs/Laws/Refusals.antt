@@ -5,17 +5,31 @@ use Rattle.aes_round.specs.Bytes.{tab}
 use Rattle.aes_round.proofs.Promises.{lt_or_le}
 use Rattle.echo.specs.Bits.{bits_of}
 use Rattle.echo.specs.Compression.{compress}
-use Rattle.echo.specs.Refusals.{Refusal, ◌when◌, counter_too_high, first_of, no_salt, unless}
+use Rattle.echo.specs.Answers.{number_of}
+use Rattle.echo.specs.Refusals.{◌when◌, counter_too_high, first_of, no_salt, unless}
+use Rattle.echo.specs.Refusals.{Refusal as Conditional}
 use Rattle.echo.specs.Families.{round_count, sizes_fit}
 use Rattle.echo.specs.Routines.{compress_refusal, compress_wide_leaves, compress_wide_refusal, rounds_refusal, rounds_wide_refusal}
 use Rattle.echo.specs.Session.{admitted, all_zero, bit_limit, digest_bits_refusal, digest_refusal, is_session, limit, other_size, read_answer, read_refusal}
 use Rattle.echo.specs.Session.{set_below}
 use Rattle.echo.specs.Square.{wide_keys_from}
 use Rattle.echo.specs.declared.mode.Mode.{Mode}
+use Rattle.echo.specs.declared.refusal.Refusal.{Refusal}
 use Rattle.echo.specs.declared.session.Session.{Session}
+use Rattle.echo.proofs.Laws.Answers.{some}
 use Rattle.echo.proofs.Laws.Bits.{Sized, whole_sized}
 use Rattle.echo.proofs.Laws.Families.{Sizes, sizes_fit_lem}
 use Rattle.echo.proofs.Laws.Words.{sixteen_are}
+
+-- ---- what is left behind: as before, where something is refused
+
+pub kept : {A : Type 0} (n : ℕ) (a b : A) → (n ≡ 0 → ⊥) → b ≡ unless n a b
+kept zero a b h = absurd (h refl)
+kept (suc n) a b h = refl
+
+-- as the code has it, which has a refusal p
+pub refused : {A : Type 0} (p : Refusal) (n : ℕ) (a b : A) → number_of p ≡ n → b ≡ unless n a b
+refused p n a b e = kept n a b (λ z. some p (e ∙ z))
 
 -- ---- rounds, whatever the counter
 
@@ -77,46 +91,43 @@ compress_bounded : (mode : Mode) (chaining block counter salt : ℕ)
 unfolding compress_refusal compress_wide_refusal
 compress_bounded mode chaining block counter salt = behind (no_salt salt) (not (sizes_fit mode chaining block)) counter
 
--- what the code has: r, and the counter where that is 0
-module _ (counter r : ℕ) where
-  as_before : (r ≡ 0 → ⊥) → r ≡ bounded counter r
-  as_before some = by r some
-    where
-      by : (r : ℕ) → (r ≡ 0 → ⊥) → r ≡ bounded counter r
-      by zero some = absurd (some refl)
-      by (suc n) some = refl
+-- what the code has: a refusal p, or none, and then the counter
+module _ (counter : ℕ) where
+  too_high : 2 ^ 64 - 161 < counter → 7 ≡ bounded counter 0
+  too_high k = simp (lt-ltb (2 ^ 64 - 161) counter k)
 
-  too_high : r ≡ 0 → 2 ^ 64 - 161 < counter → 7 ≡ bounded counter r
-  too_high none k = rw none (simp (lt-ltb (2 ^ 64 - 161) counter k))
+  low_enough : counter ≤ 2 ^ 64 - 161 → 0 ≡ bounded counter 0
+  low_enough k = simp (le-ltb (2 ^ 64 - 161) counter k)
 
-  low_enough : r ≡ 0 → counter ≤ 2 ^ 64 - 161 → 0 ≡ bounded counter r
-  low_enough none k = rw none (simp (le-ltb (2 ^ 64 - 161) counter k))
+module _ (square count counter salt : ℕ) where
+  from_rounds : (r n : ℕ) → r ≡ rounds_wide_refusal square count salt → n ≡ bounded counter r → n ≡ rounds_refusal square count counter salt
+  from_rounds r n e b = b ∙ ap (bounded counter) e ∙ sym (rounds_bounded square count counter salt)
 
-module _ (square count counter salt r : ℕ) (e : r ≡ rounds_wide_refusal square count salt) where
-  from_rounds : (n : ℕ) → n ≡ bounded counter r → n ≡ rounds_refusal square count counter salt
-  from_rounds n p = p ∙ ap (bounded counter) e ∙ sym (rounds_bounded square count counter salt)
+  pub rounds_less : (p : Refusal) → number_of p ≡ rounds_wide_refusal square count salt → number_of p ≡ rounds_refusal square count counter salt
+  rounds_less p e = from_rounds _ _ e (refused p _ _ _ refl)
 
-  pub rounds_less : (r ≡ 0 → ⊥) → r ≡ rounds_refusal square count counter salt
-  rounds_less some = from_rounds r (as_before counter r some)
+  module _ (none : 0 ≡ rounds_wide_refusal square count salt) where
+    pub rounds_7 : 2 ^ 64 - 161 < counter → 7 ≡ rounds_refusal square count counter salt
+    rounds_7 k = from_rounds 0 7 none (too_high counter k)
 
-  pub rounds_7 : r ≡ 0 → 2 ^ 64 - 161 < counter → 7 ≡ rounds_refusal square count counter salt
-  rounds_7 none k = from_rounds 7 (too_high counter r none k)
+    pub rounds_bounded_0 : counter ≤ 2 ^ 64 - 161 → 0 ≡ rounds_refusal square count counter salt
+    rounds_bounded_0 k = from_rounds 0 0 none (low_enough counter k)
 
-  pub rounds_bounded_0 : r ≡ 0 → counter ≤ 2 ^ 64 - 161 → 0 ≡ rounds_refusal square count counter salt
-  rounds_bounded_0 none k = from_rounds 0 (low_enough counter r none k)
+module _ (mode : Mode) (chaining block counter salt : ℕ) where
+  from_compress : (r n : ℕ) → r ≡ compress_wide_refusal mode chaining block salt → n ≡ bounded counter r
+      → n ≡ compress_refusal mode chaining block counter salt
+  from_compress r n e b = b ∙ ap (bounded counter) e ∙ sym (compress_bounded mode chaining block counter salt)
 
-module _ (mode : Mode) (chaining block counter salt r : ℕ) (e : r ≡ compress_wide_refusal mode chaining block salt) where
-  from_compress : (n : ℕ) → n ≡ bounded counter r → n ≡ compress_refusal mode chaining block counter salt
-  from_compress n p = p ∙ ap (bounded counter) e ∙ sym (compress_bounded mode chaining block counter salt)
+  pub compress_less : (p : Refusal) → number_of p ≡ compress_wide_refusal mode chaining block salt
+      → number_of p ≡ compress_refusal mode chaining block counter salt
+  compress_less p e = from_compress _ _ e (refused p _ _ _ refl)
 
-  pub compress_less : (r ≡ 0 → ⊥) → r ≡ compress_refusal mode chaining block counter salt
-  compress_less some = from_compress r (as_before counter r some)
+  module _ (none : 0 ≡ compress_wide_refusal mode chaining block salt) where
+    pub compress_7 : 2 ^ 64 - 161 < counter → 7 ≡ compress_refusal mode chaining block counter salt
+    compress_7 k = from_compress 0 7 none (too_high counter k)
 
-  pub compress_7 : r ≡ 0 → 2 ^ 64 - 161 < counter → 7 ≡ compress_refusal mode chaining block counter salt
-  compress_7 none k = from_compress 7 (too_high counter r none k)
-
-  pub compress_bounded_0 : r ≡ 0 → counter ≤ 2 ^ 64 - 161 → 0 ≡ compress_refusal mode chaining block counter salt
-  compress_bounded_0 none k = from_compress 0 (low_enough counter r none k)
+    pub compress_bounded_0 : counter ≤ 2 ^ 64 - 161 → 0 ≡ compress_refusal mode chaining block counter salt
+    compress_bounded_0 k = from_compress 0 0 none (low_enough counter k)
 
 -- ---- the digest at once
 
@@ -145,7 +156,7 @@ module _ (bits salt message room : ℕ) (t : Bool) (e : t ≡ admitted bits) whe
         digest_0 r = simp (sym e ∙ not-false t n, eq-eqb salt 16 s, le-ltb limit message m, le-ltb room (bits / 8) r)
 
 -- what no refusal means: of each number in turn, and of the digest
-pub none_first : (n : ℕ) (b : Bool) (rest : List Refusal) → (n ≡ 0 → ⊥) → first_of ((n when b) ∷ rest) ≡ 0 → (b ≡ false) × (first_of rest ≡ 0)
+pub none_first : (n : ℕ) (b : Bool) (rest : List Conditional) → (n ≡ 0 → ⊥) → first_of ((n when b) ∷ rest) ≡ 0 → (b ≡ false) × (first_of rest ≡ 0)
 none_first n true rest h e = absurd (h e)
 none_first n false rest h e = (refl, e)
 
@@ -209,31 +220,29 @@ digest_measured bits salt message count room =
     behind_four (not (admitted bits)) (no_salt salt) (ltb bit_limit count) (ltb room (bits / 8)) (other_size (length message) count) (set_below message count)
     ∙ ap (measured message count) (sym (digest_whole_number bits salt count room))
 
--- what the code has: r, and then the message where that is 0
-module _ (bits salt : ℕ) (message : List ℕ) (count room r : ℕ) (e : r ≡ digest_refusal bits salt (count / 8) room) where
-  from_measured : (n : ℕ) → n ≡ measured message count r → n ≡ digest_bits_refusal bits salt message count room
-  from_measured n p = p ∙ ap (measured message count) e ∙ sym (digest_measured bits salt message count room)
+-- what the code has: a refusal p, or none, and then the message
+module _ (bits salt : ℕ) (message : List ℕ) (count room : ℕ) where
+  from_measured : (r n : ℕ) → r ≡ digest_refusal bits salt (count / 8) room → n ≡ measured message count r
+      → n ≡ digest_bits_refusal bits salt message count room
+  from_measured r n e m = m ∙ ap (measured message count) e ∙ sym (digest_measured bits salt message count room)
 
-  pub digest_less : (r ≡ 0 → ⊥) → r ≡ digest_bits_refusal bits salt message count room
-  digest_less some = from_measured r (by r some)
-    where
-      by : (r : ℕ) → (r ≡ 0 → ⊥) → r ≡ measured message count r
-      by zero some = absurd (some refl)
-      by (suc n) some = refl
+  pub digest_less : (p : Refusal) → number_of p ≡ digest_refusal bits salt (count / 8) room
+      → number_of p ≡ digest_bits_refusal bits salt message count room
+  digest_less p e = from_measured _ _ e (refused p _ _ _ refl)
 
-  module _ (none : r ≡ 0) where
+  module _ (none : 0 ≡ digest_refusal bits salt (count / 8) room) where
     pub digest_counted : count + 7 < 2 ^ 64
-    digest_counted = omega (arith, (digestible bits salt (count / 8) room (sym e ∙ none)).message_fits)
+    digest_counted = omega (arith, (digestible bits salt (count / 8) room (sym none)).message_fits)
 
     pub digest_6 : (length message ≡ (count + 7) / 8 → ⊥) → 6 ≡ digest_bits_refusal bits salt message count room
-    digest_6 l = from_measured 6 (rw none (simp (ne_eqb (length message) ((count + 7) / 8) l)))
+    digest_6 l = from_measured 0 6 none (simp (ne_eqb (length message) ((count + 7) / 8) l))
 
     module _ (l : length message ≡ (count + 7) / 8) (z : Bool) (g : z ≡ all_zero (drop count (bits_of message))) where
       pub digest_17 : not z ≡ true → 17 ≡ digest_bits_refusal bits salt message count room
-      digest_17 c = from_measured 17 (rw none (simp (eq-eqb (length message) ((count + 7) / 8) l, sym g ∙ not-true z c)))
+      digest_17 c = from_measured 0 17 none (simp (eq-eqb (length message) ((count + 7) / 8) l, sym g ∙ not-true z c))
 
       pub digest_bits_0 : not z ≡ false → 0 ≡ digest_bits_refusal bits salt message count room
-      digest_bits_0 c = from_measured 0 (rw none (simp (eq-eqb (length message) ((count + 7) / 8) l, sym g ∙ not-false z c)))
+      digest_bits_0 c = from_measured 0 0 none (simp (eq-eqb (length message) ((count + 7) / 8) l, sym g ∙ not-false z c))
 
 -- nothing: what is known of the arguments then
 pub record BitsDigestible (bits salt : ℕ) (message : List ℕ) (count room : ℕ) : Type 0 where
@@ -373,19 +382,11 @@ compress_fit mode chaining block salt e =
       sizes_are = sizes_fit_lem mode chaining block (not-false (sizes_fit mode chaining block) b.0);
     }
 
--- ---- what a refusal r that the code has means to it
+-- ---- no refusal: what the routine requires of its arguments holds, and sixteen bytes of the salt are the salt
 
-pub refused : {A : Type 0} (r n : ℕ) (a b : A) → r ≡ n → (r ≡ 0 → ⊥) → b ≡ unless n a b
-refused r zero a b e h = absurd (h e)
-refused r (suc n) a b e h = refl
-
-pub none_refused : (r n : ℕ) → r ≡ n → r ≡ 0 → 0 ≡ n
-none_refused r n e none = sym none ∙ e
-
--- none: what the routine requires of its arguments holds, and sixteen bytes of the salt are the salt
-module _ (square : List ℕ) (count : ℕ) (salt : List ℕ) (r : ℕ) (e : r ≡ rounds_wide_refusal (length square) count (length salt)) (none : r ≡ 0) where
+module _ (square : List ℕ) (count : ℕ) (salt : List ℕ) (none : 0 ≡ rounds_wide_refusal (length square) count (length salt)) where
   fit : RoundsFit (length square) count (length salt)
-  fit = rounds_fit (length square) count (length salt) (sym e ∙ none)
+  fit = rounds_fit (length square) count (length salt) (sym none)
 
   pub rounds_salt : 0 + 16 ≤ length salt
   rounds_salt = omega (arith, fit.salt_fits)
@@ -401,10 +402,9 @@ module _ (square : List ℕ) (count : ℕ) (salt : List ℕ) (r : ℕ) (e : r �
   pub rounds_counters : (counter : ℕ) → counter ≤ 2 ^ 64 - 161 → counter + 16 * count ≤ 2 ^ 64
   rounds_counters counter k = ⊎_elim (λ e. omega arith) (λ e. omega arith) fit.count_fits
 
-module _ (mode : Mode) (chaining block salt : List ℕ) (r : ℕ)
-    (e : r ≡ compress_wide_refusal mode (length chaining) (length block) (length salt)) (none : r ≡ 0) where
+module _ (mode : Mode) (chaining block salt : List ℕ) (none : 0 ≡ compress_wide_refusal mode (length chaining) (length block) (length salt)) where
   fits : CompressFit mode (length chaining) (length block) (length salt)
-  fits = compress_fit mode (length chaining) (length block) (length salt) (sym e ∙ none)
+  fits = compress_fit mode (length chaining) (length block) (length salt) (sym none)
 
   pub compress_salt : 0 + 16 ≤ length salt
   compress_salt = omega (arith, fits.salt_fits)
@@ -430,14 +430,14 @@ module _ (mode : Mode) (chaining block salt : List ℕ) (r : ℕ)
   compress_done n counter x last c s d =
       d
       ∙ ap₂ (λ (m : ℕ) (y : List ℕ). compress (length chaining) m (wide_keys_from counter) y chaining block) c (s ∙ sixteen_are salt fits.salt_fits)
-      ∙ sym (done _ _ _ (sym e ∙ none))
+      ∙ sym (done _ _ _ (sym none))
 
 -- the rounds f, forward or backward
-module _ (f : ℕ → (ℕ → List ℕ) → List ℕ → List ℕ → List ℕ) (square : List ℕ) (count counter : ℕ) (salt : List ℕ) (r : ℕ) where
-  pub rounds_done : r ≡ rounds_wide_refusal (length square) count (length salt) → r ≡ 0 → (x last : List ℕ) → x ≡ tab 16 (λ k. get_or salt (0 + k) 0)
+module _ (f : ℕ → (ℕ → List ℕ) → List ℕ → List ℕ → List ℕ) (square : List ℕ) (count counter : ℕ) (salt : List ℕ) where
+  pub rounds_done : 0 ≡ rounds_wide_refusal (length square) count (length salt) → (x last : List ℕ) → x ≡ tab 16 (λ k. get_or salt (0 + k) 0)
       → last ≡ f count (wide_keys_from counter) x square
       → last ≡ unless (rounds_wide_refusal (length square) count (length salt)) (f count (wide_keys_from counter) salt square) square
-  rounds_done e none x last s d =
+  rounds_done none x last s d =
       d
-      ∙ ap (λ (y : List ℕ). f count (wide_keys_from counter) y square) (s ∙ sixteen_are salt (fit square count salt r e none).salt_fits)
-      ∙ sym (done _ _ _ (sym e ∙ none))
+      ∙ ap (λ (y : List ℕ). f count (wide_keys_from counter) y square) (s ∙ sixteen_are salt (fit square count salt none).salt_fits)
+      ∙ sym (done _ _ _ (sym none))

@@ -1,22 +1,24 @@
 -- Laws of the session's definitions, over plain records. Assumes nothing.
-use Rattle.std.proofs.Common.{◌≡◌, ℕ, zero, suc, ◌+◌, ◌-◌, ◌*◌, ◌/◌, ◌%◌, ◌^◌, ◌<◌, ◌≤◌, Bool, true, false, not, ◌&&◌, eqb, ltb, leb, List, [], ◌∷◌, ◌++◌, length, get_or, take, drop, replicate, sym, refl, ap, ◌∙◌, subst, arith, take-append-drop, length-take-le, ltb-false, le-ltb, lt-ltb, eq-eqb, ne_eqb, eqb-true, le-leb, leb-true}
+use Rattle.std.proofs.Common.{◌≡◌, ℕ, ◌+◌, ◌-◌, ◌*◌, ◌/◌, ◌%◌, ◌^◌, ◌<◌, ◌≤◌, Bool, true, false, not, ◌&&◌, eqb, ltb, leb, ◌⊎◌, inl, inr, List, [], ◌∷◌, ◌++◌, length, get_or, take, drop, replicate, sym, refl, ap, ◌∙◌, ap₂, subst, arith, take-append-drop, length-take-le, ltb-false, le-ltb, lt-ltb, eq-eqb, ne_eqb, eqb-true, le-leb, leb-true}
 use borrow.Author.Tests.{lt-leb, not-false, not-true}
 use lib.Seq.{take-append-le}
 use Rattle.aes_round.specs.Bytes.{tab}
 use Rattle.echo.specs.declared.mode.Mode.{Mode}
-use Rattle.echo.specs.declared.session.Answer.{Answer}
+use Rattle.echo.specs.declared.refusal.Refusal.{Refusal}
+use Rattle.echo.specs.declared.refusal.Refusal.TheVariants.{NoSession, TooLong}
+use Rattle.echo.specs.Answers.{Answer, number_of}
 use Rattle.echo.specs.declared.session.Session.{Session}
 use Rattle.echo.specs.Bits.{bits_of}
 use Rattle.echo.specs.Digest.{initial}
 use Rattle.echo.specs.Families.{block_size, chaining_size}
 use Rattle.echo.specs.Placed.{Placed}
-use Rattle.echo.specs.Refusals.{◌when◌, unless}
+use Rattle.echo.specs.Refusals.{◌when◌}
 use Rattle.echo.specs.Session.{add_answer, add_bits, add_bits_answer, add_bits_refusal, admitted, all_zero, bit_limit, blank, final_chaining, is_session, limit}
 use Rattle.echo.specs.Session.{made, open_answer, open_refusal, opened, read_answer, read_leaves, read_refusal, session_digest}
 use Rattle.echo.proofs.Laws.Bits.{Sized}
 use Rattle.echo.proofs.Laws.Families.{digest_in_chaining, sizes}
 use Rattle.echo.proofs.Laws.Placed.{placed_front}
-use Rattle.echo.proofs.Laws.Refusals.{none_first}
+use Rattle.echo.proofs.Laws.Refusals.{none_first, refused}
 use Rattle.echo.proofs.Laws.Words.{sixteen_are}
 use Rattle.echo.proofs.Laws.Admitted.{admitted_means}
 use Rattle.echo.proofs.Laws.Zeros.{both}
@@ -24,28 +26,25 @@ use Rattle.echo.proofs.Laws.Zeros.{both}
 -- ---- which records are sessions: the answers of is_session, by the tests a, w and v that the code made
 
 module _ (s : Session) (a : Bool) (e : a ≡ admitted s.bits) where
-  pub is_not_admitted : not a ≡ true → false ≡ is_session s
+  pub is_out : (a ≡ false) ⊎ ((a ≡ true) × (bit_limit < s.taken)) → false ≡ is_session s
   unfolding is_session
-  is_not_admitted fails = rw (← e, not-true a fails)
+  is_out (inl fails) = rw (← e, fails)
+  is_out (inr (holds, n)) = rw (← e, holds, lt-leb s.taken bit_limit n)
 
   module _ (holds : not a ≡ false) where
-    pub is_too_long : bit_limit < s.taken → false ≡ is_session s
-    unfolding is_session
-    is_too_long n = rw (← e, not-false a holds, lt-leb s.taken bit_limit n)
-
     module _ (n : s.taken ≤ bit_limit) (b : ℕ) (size : b ≡ block_size s.mode s.bits) (w : Bool)
         (z : w ≡ all_zero (drop (s.taken % (8 * b)) (bits_of s.waiting))) where
       rest_is : w ≡ all_zero (drop (s.taken % (8 * block_size s.mode s.bits)) (bits_of s.waiting))
       rest_is = z ∙ ap (λ (x : ℕ). all_zero (drop (s.taken % (8 * x)) (bits_of s.waiting))) size
 
-      pub is_not_clear : not w ≡ true → false ≡ is_session s
+      pub is_not_clear : w ≡ false → w ≡ is_session s
       unfolding is_session
-      is_not_clear fails = rw (← e, not-false a holds, le-leb s.taken bit_limit n, ← rest_is, not-true w fails)
+      is_not_clear fails = fails ∙ rw (← e, not-false a holds, le-leb s.taken bit_limit n, ← rest_is, fails)
 
-      pub is_clear : not w ≡ false → (c : ℕ) (v : Bool) → v ≡ all_zero (drop c s.chaining) → c ≡ chaining_size s.mode s.bits → v ≡ is_session s
+      pub is_clear : w ≡ true → (c : ℕ) (v : Bool) → v ≡ all_zero (drop c s.chaining) → c ≡ chaining_size s.mode s.bits → v ≡ is_session s
       unfolding is_session
       is_clear clear c v q p =
-          rw (← e, not-false a holds, le-leb s.taken bit_limit n, ← rest_is, not-false w clear)
+          rw (← e, not-false a holds, le-leb s.taken bit_limit n, ← rest_is, clear)
           (q ∙ ap (λ (x : ℕ). all_zero (drop x s.chaining)) p)
 
 pub record SessionFits (s : Session) : Type 0 where
@@ -171,20 +170,16 @@ module _ (s : Session) (piece : List ℕ) (count : ℕ) where
       let fits : count ≤ bit_limit - s.taken = omega (arith, A.fits) in
       sym (add_0 s piece count true (sym A.is) refl fits A.sized.size false (sym A.ends) refl true (sym A.sized.clear) refl)
 
--- what the code answers, by the refusal r that it has
-module _ (s : Session) (piece : List ℕ) (count r : ℕ) (e : r ≡ add_bits_refusal s piece count) where
-  pub not_added : (r ≡ 0 → ⊥) → ◌≡◌ {A = Answer} (record { refusal = r; session = s }) (add_bits_answer s piece count)
+-- what the code answers: a refusal p, or none
+module _ (s : Session) (piece : List ℕ) (count : ℕ) where
+  pub not_added : (p : Refusal) → number_of p ≡ add_bits_refusal s piece count
+      → ◌≡◌ {A = Answer} (record { refusal = number_of p; session = s }) (add_bits_answer s piece count)
   unfolding add_bits_answer
-  not_added some = by r (add_bits_refusal s piece count) e some
-    where
-      by : (r n : ℕ) → r ≡ n → (r ≡ 0 → ⊥)
-          → ◌≡◌ {A = Answer} (record { refusal = r; session = s }) (record { refusal = n; session = unless n (add_bits s piece count) s })
-      by r zero e h = absurd (h e)
-      by r (suc n) e h = ap (λ (k : ℕ). record { refusal = k; session = s }) e
+  not_added p e = ap₂ (λ (k : ℕ) (t : Session). record { refusal = k; session = t }) e (refused p _ (add_bits s piece count) s e)
 
-  module _ (none : r ≡ 0) where
+  module _ (none : 0 ≡ add_bits_refusal s piece count) where
     able : Addable s piece count
-    able = addable s piece count (sym e ∙ none)
+    able = addable s piece count (sym none)
 
     pub adds : s.taken + count ≤ bit_limit
     adds = able.fits
@@ -197,17 +192,17 @@ module _ (s : Session) (piece : List ℕ) (count r : ℕ) (e : r ≡ add_bits_re
 
     pub added : (t : Session) → t ≡ add_bits s piece count → ◌≡◌ {A = Answer} (record { refusal = 0; session = t }) (add_bits_answer s piece count)
     unfolding add_bits_answer
-    added t d = rw (← e, none, d)
+    added t d = rw (← none, d)
 
 -- whole bytes that are too many
 module _ (s : Session) (piece : List ℕ) (long : limit < length piece) (a : Bool) (e : a ≡ is_session s) where
   pub over_3 : a ≡ false → ◌≡◌ {A = Answer} (record { refusal = 3; session = s }) (add_answer s piece)
   unfolding add_answer
-  over_3 fails = not_added s piece (8 * length piece) 3 (add_3 s piece (8 * length piece) a e (ap not fails)) (λ z. omega arith)
+  over_3 fails = not_added s piece (8 * length piece) NoSession (add_3 s piece (8 * length piece) a e (ap not fails))
 
   pub over_4 : a ≡ true → ◌≡◌ {A = Answer} (record { refusal = 4; session = s }) (add_answer s piece)
   unfolding add_answer
-  over_4 holds = not_added s piece (8 * length piece) 4 (add_4 s piece (8 * length piece) a e (ap not holds) (omega arith)) (λ z. omega arith)
+  over_4 holds = not_added s piece (8 * length piece) TooLong (add_4 s piece (8 * length piece) a e (ap not holds) (omega arith))
 
 -- and those that may not be
 pub as_bits : (s : Session) (piece : List ℕ) (r : Answer) → r ≡ add_bits_answer s piece (8 * length piece) → r ≡ add_answer s piece

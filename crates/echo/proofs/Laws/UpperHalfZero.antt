@@ -75,16 +75,16 @@ compression_agrees c n counter salt v m last h e =
 
 -- ---- the rounds, wherever those with a counter of 64 bits refuse nothing
 
-module _ (square : List ℕ) (count counter : ℕ) (salt : List ℕ) (r : ℕ) (e : r ≡ rounds_refusal (length square) count counter (length salt)) (none : r ≡ 0) where
+module _ (square : List ℕ) (count counter : ℕ) (salt : List ℕ) (none : 0 ≡ rounds_refusal (length square) count counter (length salt)) where
   within : (rounds_wide_refusal (length square) count (length salt) ≡ 0) × (counter ≤ 2 ^ 64 - 161)
-  within = rounds_within (length square) count counter (length salt) (sym e ∙ none)
+  within = rounds_within (length square) count counter (length salt) (sym none)
 
   counters : counter + 16 * count ≤ 2 ^ 64
-  counters = rounds_counters square count salt _ refl within.0 counter within.1
+  counters = rounds_counters square count salt (sym within.0) counter within.1
 
   pub same_rounds_refusal : (q : ℕ) → q ≡ rounds_wide_refusal (length square) count (length salt)
       → q ≡ rounds_refusal (length square) count counter (length salt)
-  same_rounds_refusal q p = p ∙ within.0 ∙ sym (sym e ∙ none)
+  same_rounds_refusal q p = p ∙ within.0 ∙ none
 
   -- rounds f, forward or backward, to which only the subkeys that they use matter
   module _ (f : ℕ → (ℕ → List ℕ) → List ℕ → List ℕ → List ℕ)
@@ -95,7 +95,7 @@ module _ (square : List ℕ) (count counter : ℕ) (salt : List ℕ) (r : ℕ) (
     leave =
         done _ _ _ within.0
         ∙ agree (wide_keys_from (halves counter 0)) (keys_from counter) salt count square (run_agrees counter count counters)
-        ∙ sym (done _ _ _ (sym e ∙ none))
+        ∙ sym (done _ _ _ (sym none))
 
   pub same_rounds : (last : List ℕ) → last ≡ rounds_wide_leave square count (halves counter 0) salt → last ≡ rounds_leave square count counter salt
   unfolding rounds_wide_leave rounds_leave
@@ -108,38 +108,38 @@ module _ (square : List ℕ) (count counter : ℕ) (salt : List ℕ) (r : ℕ) (
 
   -- what a run itself requires, and what it leaves
   pub same_salt : 0 + 16 ≤ length salt
-  same_salt = rounds_salt square count salt _ refl within.0
+  same_salt = rounds_salt square count salt (sym within.0)
 
   pub same_square : length square ≡ 256
-  same_square = rounds_square square count salt _ refl within.0
+  same_square = rounds_square square count salt (sym within.0)
 
   pub same_words : 16 * count ≤ 2 ^ 64
-  same_words = rounds_words square count salt _ refl within.0
+  same_words = rounds_words square count salt (sym within.0)
 
   pub same_run : (x last : List ℕ) → x ≡ tab 16 (λ k. get_or salt (0 + k) 0) → last ≡ rounds count (wide_keys_from (halves counter 0)) x square
       → last ≡ rounds_leave square count counter salt
   unfolding rounds_wide_leave
-  same_run x last s d = same_rounds last (rounds_done rounds square count (halves counter 0) salt _ refl within.0 x last s d)
+  same_run x last s d = same_rounds last (rounds_done rounds square count (halves counter 0) salt (sym within.0) x last s d)
 
 -- ---- compression likewise
 
-module _ (mode : Mode) (chaining block : List ℕ) (counter : ℕ) (salt : List ℕ) (r : ℕ)
-    (e : r ≡ compress_refusal mode (length chaining) (length block) counter (length salt)) (none : r ≡ 0) where
+module _ (mode : Mode) (chaining block : List ℕ) (counter : ℕ) (salt : List ℕ)
+    (none : 0 ≡ compress_refusal mode (length chaining) (length block) counter (length salt)) where
   withins : (compress_wide_refusal mode (length chaining) (length block) (length salt) ≡ 0) × (counter ≤ 2 ^ 64 - 161)
-  withins = compress_within mode (length chaining) (length block) counter (length salt) (sym e ∙ none)
+  withins = compress_within mode (length chaining) (length block) counter (length salt) (sym none)
 
   pub same_compress_refusal : (q : ℕ) → q ≡ compress_wide_refusal mode (length chaining) (length block) (length salt)
       → q ≡ compress_refusal mode (length chaining) (length block) counter (length salt)
-  same_compress_refusal q p = p ∙ withins.0 ∙ sym (sym e ∙ none)
+  same_compress_refusal q p = p ∙ withins.0 ∙ none
 
   pub same_compression : (last : List ℕ) → last ≡ compress_wide_leaves mode chaining block (halves counter 0) salt
       → last ≡ compress_leaves mode chaining block counter salt
   unfolding compress_wide_leaves compress_leaves
   same_compression last p =
       compression_agrees (length chaining) (round_count mode (length chaining)) counter salt chaining block last
-      (compress_counters mode chaining block salt _ refl withins.0 counter withins.1)
+      (compress_counters mode chaining block salt (sym withins.0) counter withins.1)
       (p ∙ done _ _ _ withins.0)
-      ∙ sym (done _ _ _ (sym e ∙ none))
+      ∙ sym (done _ _ _ (sym none))
 
 -- ---- all of it in one
 
@@ -149,9 +149,9 @@ pub rounds_agree_with_the_upper_half_zero : (square : List ℕ) (count counter :
     × (rounds_wide_leave square count (halves counter 0) salt ≡ rounds_leave square count counter salt)
     × (rounds_back_wide_leave square count (halves counter 0) salt ≡ rounds_back_leave square count counter salt)
 rounds_agree_with_the_upper_half_zero square count counter salt z = (
-  (within square count counter salt _ refl z).0,
-  same_rounds square count counter salt _ refl z _ refl,
-  same_rounds_back square count counter salt _ refl z _ refl,
+  (within square count counter salt (sym z)).0,
+  same_rounds square count counter salt (sym z) _ refl,
+  same_rounds_back square count counter salt (sym z) _ refl,
 )
 
 pub compression_agrees_with_the_upper_half_zero : (mode : Mode) (chaining block : List ℕ) (counter : ℕ) (salt : List ℕ)
@@ -159,6 +159,6 @@ pub compression_agrees_with_the_upper_half_zero : (mode : Mode) (chaining block 
     → (compress_wide_refusal mode (length chaining) (length block) (length salt) ≡ 0)
     × (compress_wide_leaves mode chaining block (halves counter 0) salt ≡ compress_leaves mode chaining block counter salt)
 compression_agrees_with_the_upper_half_zero mode chaining block counter salt z = (
-  (withins mode chaining block counter salt _ refl z).0,
-  same_compression mode chaining block counter salt _ refl z _ refl,
+  (withins mode chaining block counter salt (sym z)).0,
+  same_compression mode chaining block counter salt (sym z) _ refl,
 )

@@ -4,16 +4,12 @@ use Rattle.echo.proofs.Laws.Refusals.{refused}
 use Rattle.echo.proofs.Laws.UpperHalfZero.{same_compress_refusal, same_compression}
 use Rattle.echo.proofs.compression.compress.Goals as goal
 
-pub returns-then-refusal-ne0-clause-refusal : goal.returns-then-refusal-ne0-clause-refusal
+pub returns-in_err-check_compress-clause-left : goal.returns-in_err-check_compress-clause-left
 unfolding compress_leaves
-returns-then-refusal-ne0-clause-refusal c = search
-
-pub returns-then-refusal-ne0-clause-left : goal.returns-then-refusal-ne0-clause-left
-unfolding compress_leaves
-returns-then-refusal-ne0-clause-left c = search refused
+returns-in_err-check_compress-clause-left c = search (refused, c.in_err-check_compress.ensures)
 
 pub returns-clause-refusal : goal.returns-clause-refusal
-returns-clause-refusal c = search same_compress_refusal
+returns-clause-refusal c = search (same_compress_refusal, c.in_ok-check_compress.ensures)
 
 pub returns-clause-left : goal.returns-clause-left
-returns-clause-left c = search same_compression
+returns-clause-left c = search (same_compression, c.in_ok-check_compress.ensures)

@@ -4,16 +4,12 @@ use Rattle.echo.proofs.Laws.AtOnce.{whole_answers, whole_counted, whole_left}
 use Rattle.echo.proofs.Laws.Refusals.{refused}
 use Rattle.echo.proofs.digest_at_once.digest.Goals as goal
 
-pub returns-then-refusal-ne0-clause-refusal : goal.returns-then-refusal-ne0-clause-refusal
+pub returns-in_err-check_digest-clause-left : goal.returns-in_err-check_digest-clause-left
 unfolding digest_leaves
-returns-then-refusal-ne0-clause-refusal c = search
-
-pub returns-then-refusal-ne0-clause-left : goal.returns-then-refusal-ne0-clause-left
-unfolding digest_leaves
-returns-then-refusal-ne0-clause-left c = search refused
+returns-in_err-check_digest-clause-left c = search (refused, c.in_err-check_digest.ensures)
 
 pub overflow_mul-message : goal.overflow_mul-message
-overflow_mul-message c = search whole_counted
+overflow_mul-message c = search (whole_counted, c.in_ok-check_digest.ensures)
 
 pub returns-clause-refusal : goal.returns-clause-refusal
 returns-clause-refusal c = search whole_answers

@@ -1,19 +1,40 @@
--- `digest_bits` meets its contract: a refusal, or an opening, one piece and a reading. Assumes nothing.
+-- `digest_bits` meets its contract: a refusal, or an opening, one piece and a reading, of which none is refused. Assumes nothing.
 use Rattle.echo.specs.Session.{digest_bits_leaves}
-use Rattle.echo.proofs.Laws.AtOnce.{at_once_answers, at_once_leaves}
+use Rattle.echo.proofs.Laws.AtOnce.{adding_taken, at_once_leaves, opening_taken, reading_taken}
 use Rattle.echo.proofs.Laws.Refusals.{refused}
 use Rattle.echo.proofs.digest_at_once.digest_bits.Goals as goal
 
-pub returns-then-refusal-ne0-clause-refusal : goal.returns-then-refusal-ne0-clause-refusal
+pub returns-in_err-check_digest_bits-clause-left : goal.returns-in_err-check_digest_bits-clause-left
 unfolding digest_bits_leaves
-returns-then-refusal-ne0-clause-refusal c = search
+returns-in_err-check_digest_bits-clause-left c = search (refused, c.in_err-check_digest_bits.ensures)
 
-pub returns-then-refusal-ne0-clause-left : goal.returns-then-refusal-ne0-clause-left
-unfolding digest_bits_leaves
-returns-then-refusal-ne0-clause-left c = search refused
+pub returns-in_err-opened-clause-refusal : goal.returns-in_err-opened-clause-refusal
+returns-in_err-opened-clause-refusal c =
+    absurd (opening_taken _ _ _ _ _ _ c.in_ok-check_digest_bits.ensures c.in_err-opened.field-0.0 c.in_err-opened.ensures)
 
-pub returns-clause-refusal : goal.returns-clause-refusal
-returns-clause-refusal c = search at_once_answers
+pub returns-in_err-opened-clause-left : goal.returns-in_err-opened-clause-left
+returns-in_err-opened-clause-left c =
+    absurd (opening_taken _ _ _ _ _ _ c.in_ok-check_digest_bits.ensures c.in_err-opened.field-0.0 c.in_err-opened.ensures)
+
+pub returns-in_err-whole-clause-refusal : goal.returns-in_err-whole-clause-refusal
+returns-in_err-whole-clause-refusal c =
+    absurd (adding_taken _ _ _ _ _ _ c.in_ok-check_digest_bits.ensures _ c.in_ok-opened.ensures c.in_err-whole.field-0.0 c.in_err-whole.ensures)
+
+pub returns-in_err-whole-clause-left : goal.returns-in_err-whole-clause-left
+returns-in_err-whole-clause-left c =
+    absurd (adding_taken _ _ _ _ _ _ c.in_ok-check_digest_bits.ensures _ c.in_ok-opened.ensures c.in_err-whole.field-0.0 c.in_err-whole.ensures)
+
+pub returns-in_err-read-clause-refusal : goal.returns-in_err-read-clause-refusal
+returns-in_err-read-clause-refusal c =
+    absurd
+    (reading_taken _ _ _ _ _ _ c.in_ok-check_digest_bits.ensures _ c.in_ok-opened.ensures _ c.in_ok-whole.ensures c.in_err-read.field-0.0
+    c.in_err-read.ensures.answer)
+
+pub returns-in_err-read-clause-left : goal.returns-in_err-read-clause-left
+returns-in_err-read-clause-left c =
+    absurd
+    (reading_taken _ _ _ _ _ _ c.in_ok-check_digest_bits.ensures _ c.in_ok-opened.ensures _ c.in_ok-whole.ensures c.in_err-read.field-0.0
+    c.in_err-read.ensures.answer)
 
 pub returns-clause-left : goal.returns-clause-left
-returns-clause-left c = search at_once_leaves
+returns-clause-left c = search (at_once_leaves, c.in_ok-check_digest_bits.ensures, c.in_ok-opened.ensures, c.in_ok-whole.ensures)

@@ -1,17 +1,20 @@
--- `admitted` meets its contract, a case for each return. Assumes nothing.
-use Rattle.std.proofs.Common.{le-leb}
+-- `admitted` meets its contract, by the tests of its branches. Assumes nothing.
+use Rattle.std.proofs.Common.{◌<◌, ◌∙◌, ⊎_elim, arith, le-leb}
 use borrow.Author.Tests.{lt-leb}
 use Rattle.echo.specs.Session.{admitted}
+use Rattle.echo.proofs.families.admitted.Goals.{then-bits-ge128, else-bits-ge128}
 use Rattle.echo.proofs.families.admitted.Goals as goal
 
-pub returns-then-bits-lt128 : goal.returns-then-bits-lt128
+pub returns-then-bits-le512 : goal.returns-then-bits-le512
 unfolding admitted
-returns-then-bits-lt128 c = simp (lt-leb _ _ c.if-bits-lt128.true)
+returns-then-bits-le512 c = simp (le-leb _ _ c.if-bits-le512.true.0, le-leb _ _ c.if-bits-le512.true.1)
 
-pub returns-then-bits-gt512 : goal.returns-then-bits-gt512
+pub returns-else-bits-le512 : goal.returns-else-bits-le512
 unfolding admitted
-returns-then-bits-gt512 c = simp (le-leb _ _ c.if-bits-lt128.false, lt-leb _ _ c.if-bits-gt512.true)
-
-pub returns : goal.returns
-unfolding admitted
-returns c = simp (le-leb _ _ c.if-bits-lt128.false, le-leb _ _ c.if-bits-gt512.false)
+returns-else-bits-le512 c =
+    elim c.if-bits-ge128.branch [
+      | then-bits-ge128 w ↦
+          let more : 512 < c.args.bits = ⊎_elim (λ h. h.1) (λ h. absurd (omega arith)) c.if-bits-le512.either in
+          w.t-3-is ∙ simp (le-leb _ _ w.if-bits-ge128.true, lt-leb _ _ more)
+      | else-bits-ge128 w ↦ w.t-3-is ∙ simp (lt-leb _ _ w.if-bits-ge128.false)
+    ]

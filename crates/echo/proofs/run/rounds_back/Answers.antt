@@ -4,16 +4,12 @@ use Rattle.echo.proofs.Laws.Refusals.{refused}
 use Rattle.echo.proofs.Laws.UpperHalfZero.{same_rounds_back, same_rounds_refusal}
 use Rattle.echo.proofs.run.rounds_back.Goals as goal
 
-pub returns-then-refusal-ne0-clause-refusal : goal.returns-then-refusal-ne0-clause-refusal
+pub returns-in_err-check_rounds-clause-left : goal.returns-in_err-check_rounds-clause-left
 unfolding rounds_back_leave
-returns-then-refusal-ne0-clause-refusal c = search
-
-pub returns-then-refusal-ne0-clause-left : goal.returns-then-refusal-ne0-clause-left
-unfolding rounds_back_leave
-returns-then-refusal-ne0-clause-left c = search refused
+returns-in_err-check_rounds-clause-left c = search (refused, c.in_err-check_rounds.ensures)
 
 pub returns-clause-refusal : goal.returns-clause-refusal
-returns-clause-refusal c = search same_rounds_refusal
+returns-clause-refusal c = search (same_rounds_refusal, c.in_ok-check_rounds.ensures)
 
 pub returns-clause-left : goal.returns-clause-left
-returns-clause-left c = search same_rounds_back
+returns-clause-left c = search (same_rounds_back, c.in_ok-check_rounds.ensures)

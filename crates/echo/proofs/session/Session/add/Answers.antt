@@ -2,11 +2,11 @@
 use Rattle.echo.proofs.Laws.Sessions.{as_bits, over_3, over_4}
 use Rattle.echo.proofs.session.Session.add.Goals as goal
 
-pub returns-then-is_session : goal.returns-then-is_session
-returns-then-is_session c = search over_4
+pub returns-then-n-le-LIMIT : goal.returns-then-n-le-LIMIT
+returns-then-n-le-LIMIT c = search as_bits
 
-pub returns-then-n-gt-LIMIT : goal.returns-then-n-gt-LIMIT
-returns-then-n-gt-LIMIT c = search over_3
+pub returns-then-not-is_session : goal.returns-then-not-is_session
+returns-then-not-is_session c = rw c.refused.ensures (search over_3)
 
 pub returns : goal.returns
-returns c = search as_bits
+returns c = rw c.refused-2.ensures (search over_4)

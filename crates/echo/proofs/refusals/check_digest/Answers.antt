@@ -1,6 +1,6 @@
--- `digest_refusal` meets its contract, a case for each return. Assumes nothing.
+-- `check_digest` meets its contract, a case for each return. Assumes nothing.
 use Rattle.echo.proofs.Laws.Refusals.{digest_0, digest_1, digest_2, digest_4, digest_5}
-use Rattle.echo.proofs.refusals.digest_refusal.Goals as goal
+use Rattle.echo.proofs.refusals.check_digest.Goals as goal
 
 pub returns-then-not-admitted : goal.returns-then-not-admitted
 returns-then-not-admitted c = search digest_1

@@ -1,6 +1,6 @@
--- `rounds_wide_refusal` meets its contract, a case for each return. Assumes nothing.
+-- `check_rounds_wide` meets its contract, a case for each return. Assumes nothing.
 use Rattle.echo.proofs.Laws.Refusals.{rounds_0, rounds_2, rounds_6_count, rounds_6_square}
-use Rattle.echo.proofs.refusals.rounds_wide_refusal.Goals as goal
+use Rattle.echo.proofs.refusals.check_rounds_wide.Goals as goal
 
 pub returns-then-salt-ne16 : goal.returns-then-salt-ne16
 returns-then-salt-ne16 c = search rounds_2

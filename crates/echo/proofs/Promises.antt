@@ -1,9 +1,11 @@
 -- What the crates above may cite of this one, besides its specs, its contracts and its theorems (Theorems.antt): each promise is in the words of specs/,
 -- and its proof is a law of this crate. Assumes nothing.
-use Rattle.std.proofs.Common.{◌≡◌, ℕ, ◌+◌, ◌*◌, ◌/◌, ◌%◌, ◌<◌, ◌≤◌, Bool, true, not, ◌&&◌, ltb, List, [], ◌∷◌, ◌++◌, length, drop, sym}
+use Rattle.std.proofs.Common.{◌≡◌, ℕ, ◌+◌, ◌*◌, ◌/◌, ◌%◌, ◌<◌, ◌≤◌, Bool, true, not, ◌&&◌, ltb, List, [], ◌∷◌, ◌++◌, Result, length, drop, sym}
 use Rattle.echo.specs.declared.mode.Mode.{Mode}
 use Rattle.echo.specs.declared.mode.Mode.TheVariants.{DoublePipe}
-use Rattle.echo.specs.Answers.{Answer}
+use Rattle.echo.specs.declared.refusal.Refusal.{Refusal}
+use Rattle.echo.specs.declared.session.Refused.{Refused}
+use Rattle.echo.specs.Answers.{Answer, answer_of, number_of, refusal_of}
 use Rattle.echo.specs.declared.session.Session.{Session}
 use Rattle.echo.specs.Digest.{digest_of}
 use Rattle.echo.specs.Families.{block_size, sizes_fit}
@@ -13,6 +15,7 @@ use Rattle.echo.specs.Refusals.{◌when◌, counter_too_high, first_of, no_salt,
 use Rattle.echo.specs.Routines.{compress_refusal, compress_wide_refusal}
 use Rattle.echo.specs.Session.{add_answer, add_bytes, admitted, bit_limit, blank, digest_bits_refusal, digest_refusal, is_session, limit, open_answer, opened}
 use Rattle.echo.specs.Session.{other_size, read_answer, read_leaves, session_digest, set_below}
+use Rattle.echo.proofs.Laws.Answers as answers
 use Rattle.echo.proofs.Laws.Continued as continued
 use Rattle.echo.proofs.Laws.Families as families
 use Rattle.echo.proofs.Laws.Kept as kept-by-adding
@@ -70,6 +73,22 @@ done = refusals.done
 
 pub kept : {A : Type 0} (n : ℕ) (a b : A) → (n ≡ 0 → ⊥) → unless n a b ≡ b
 kept n a b some = sym (refusals.kept n a b some)
+
+-- ---- an answer is known by its numbers
+
+-- a refusal is never 0
+pub some : (p : Refusal) → number_of p ≡ 0 → ⊥
+some = answers.some
+
+pub one_number : (p q : Refusal) → number_of p ≡ number_of q → p ≡ q
+one_number = answers.one_number
+
+-- where there is one value besides a refusal
+pub one_refusal : {A : Type 0} → ((a b : A) → a ≡ b) → (r s : Result A Refusal) → refusal_of r ≡ refusal_of s → r ≡ s
+one_refusal = answers.one_refusal
+
+pub one_answer : (r s : Result Session Refused) → answer_of r ≡ answer_of s → r ≡ s
+one_answer = answers.one_answer
 
 -- ---- the refusals in order
 

@@ -13,14 +13,15 @@ use Rattle.echo.specs.Padding.{padding}
 use Rattle.echo.specs.Refusals.{unless}
 use Rattle.echo.specs.Session.{admitted, all_zero, bit_limit, blank, is_session, made, read_leaves, read_refusal, session_digest}
 use Rattle.echo.specs.Square.{wide_key, wide_keys_from}
-use Rattle.echo.proofs.Laws.Numbers.{little_are, wide_key_at}
+use Rattle.echo.proofs.Laws.Numbers.{little_are}
 
 -- word 0 of round 1, where the counter began at 2^64
 pub upper_half_in_round_one_alone_differs : wide_keys_from (2 ^ 64) 16 ≡ wide_key ((2 ^ 64 + 16) % 2 ^ (128 - min 64 (16 / 16 * 64))) → ⊥
+unfolding wide_key
 upper_half_in_round_one_alone_differs e =
-    let both = wide_key_at 16 1 (2 ^ 64 + 16) refl (lit< tt) in
-    let lower = wide_key_at 16 0 16 refl (lit< tt) in
-    let z : ◌≡◌ {A = ℕ} 1 0 = ap (λ (l : List ℕ). get_or l 8 0) (both ∙ e ∙ sym lower) in
+    let both = little_are 16 (2 ^ 64 + 16) (16 ∷ (replicate 7 0 ++ (1 ∷ replicate 7 0))) refl tt in
+    let lower = little_are 16 16 (16 ∷ replicate 15 0) refl tt in
+    let z : ◌≡◌ {A = ℕ} 1 0 = ap (λ (l : List ℕ). get_or l 8 0) (sym both ∙ e ∙ lower) in
     omega arith
 
 -- a message of one bit: the last bit of its length's first byte

@@ -23,6 +23,7 @@ pub mod Compression
 pub mod Marked
 pub mod Counting
 pub mod Families
+pub mod FromFn
 pub mod Initial
 pub mod Waiting
 pub mod Sessions

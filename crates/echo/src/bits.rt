@@ -27,11 +27,8 @@ pub(crate) fn zero_bits_from(bytes: &[u8], at: u64) -> bool
     ensures { result ≡ all_zero (drop at (bits_of bytes.now)) }
 {
     let place = (at / 8) as usize;
-    if bytes.len() <= place {
-        return true;
+    match bytes.get(place) {
+        None => true,
+        Some(x) => clear_behind(*x, at % 8) && zeros_from(bytes, place + 1),
     }
-    if !clear_behind(bytes[place], at % 8) {
-        return false;
-    }
-    zeros_from(bytes, place + 1)
 }

@@ -22,9 +22,8 @@ fn xor_in(v: &mut [u8], src: &[u8])
     requires { length src.now ≡ length v.old }
     ensures { v.new ≡ xor_bytes (length v.old) v.old src.now }
 {
-    let n = v.len();
-    for k in 0..n {
-        v[k] = v[k] ^ src[k];
+    for (k, x) in v.iter_mut().enumerate() {
+        *x ^= src[k];
     }
 }
 

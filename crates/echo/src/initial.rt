@@ -1,23 +1,19 @@
 // The chaining variable that a digest begins with.
-ghost use Rattle.std.specs.Prelude.{◌≡◌, ◌-◌, ◌/◌, ◌%◌, ◌^◌, ◌≤◌, ◌++◌, replicate};
+ghost use Rattle.std.specs.Prelude.{◌≡◌, ◌-◌, ◌%◌, ◌≤◌, ◌++◌, length, replicate, slice_index};
+ghost use Rattle.aes_round.specs.Bytes.{tab};
 ghost use Rattle.echo.specs.Digest.{initial as Digest·initial};
 ghost use Rattle.echo.specs.Families.{chaining_size};
 
 use super::families::chaining_size;
 use super::mode::Mode;
 
-// Byte i of the sixteen of the digest length, the least significant first.
-fn length_byte(bits: u64, i: usize) -> u8
-    requires { bits ≤ 512 }
-    ensures { result ≡ bits / 256 ^ i % 256 }
+// Fills v with a word, over and over.
+fn repeat(v: &mut [u8], word: [u8; 16])
+    ensures { v.new ≡ tab (length v.old) (λ k. slice_index word (k % 16)) }
 {
-    if i == 0 {
-        return (bits % 256) as u8;
+    for (k, x) in v.iter_mut().enumerate() {
+        *x = word[k % 16];
     }
-    if i == 1 {
-        return (bits / 256 % 256) as u8;
-    }
-    0
 }
 
 // The initial chaining variable, in room for the longer one: each word is the digest length.
@@ -27,8 +23,6 @@ pub(crate) fn initial(mode: Mode, bits: u64) -> [u8; 128]
 {
     let c = chaining_size(mode, bits);
     let mut v = [0u8; 128];
-    for k in 0..c {
-        v[k] = length_byte(bits, k % 16);
-    }
+    repeat(&mut v[..c], (bits as u128).to_le_bytes());
     v
 }

@@ -16,26 +16,10 @@ fn lengths(bits: u64, taken: u64) -> [u8; 18]
     requires { bits ≤ 512 }
     ensures { result ≡ little_endian 2 bits ++ little_endian 16 taken }
 {
-    [
-        (bits % 0x100) as u8,
-        (bits / 0x100 % 0x100) as u8,
-        (taken % 0x100) as u8,
-        (taken / 0x100 % 0x100) as u8,
-        (taken / 0x1_0000 % 0x100) as u8,
-        (taken / 0x100_0000 % 0x100) as u8,
-        (taken / 0x1_0000_0000 % 0x100) as u8,
-        (taken / 0x100_0000_0000 % 0x100) as u8,
-        (taken / 0x1_0000_0000_0000 % 0x100) as u8,
-        (taken / 0x100_0000_0000_0000 % 0x100) as u8,
-        0,
-        0,
-        0,
-        0,
-        0,
-        0,
-        0,
-        0,
-    ]
+    let mut end = [0u8; 18];
+    end[..2].copy_from_slice(&(bits as u16).to_le_bytes());
+    end[2..].copy_from_slice(&(taken as u128).to_le_bytes());
+    end
 }
 
 // The counter of the block with the padding's first bit, of which so many bits are message: 0 for a block of pure padding.

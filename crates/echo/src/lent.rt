@@ -8,12 +8,7 @@ pub(crate) fn copy_in(dst: &mut [u8], at: usize, src: &[u8])
     requires { at + length src.now ≤ length dst.old }
     ensures { Placed dst.old at src.now (length src.now) dst.new }
 {
-    let n = src.len();
-    let mut i = 0;
-    while i < n {
-        dst[at + i] = src[i];
-        i += 1;
-    }
+    dst[at..at + src.len()].copy_from_slice(src);
 }
 
 // The sixteen bytes of src from the place `at` on.
@@ -22,8 +17,6 @@ pub(crate) fn sixteen(src: &[u8], at: usize) -> [u8; 16]
     ensures { result ≡ tab 16 (λ k. slice_index src.now (at + k)) }
 {
     let mut r = [0u8; 16];
-    for k in 0..16 {
-        r[k] = src[at + k];
-    }
+    r.copy_from_slice(&src[at..at + 16]);
     r
 }

@@ -12,9 +12,7 @@ fn pull_word(s: &mut [u8], e: usize)
     requires e_bound { e < 12 }
     ensures { Placed s.old (16 * e) (word s.old (e + 4)) 16 s.new }
 {
-    for k in 0..16 {
-        s[16 * e + k] = s[16 * (e + 4) + k];
-    }
+    s.copy_within(16 * (e + 4)..16 * (e + 5), 16 * e);
 }
 
 // The row i is turned by one place to the left: its first word is kept aside, the other three move up, and the first comes back as the last.

@@ -10,27 +10,11 @@ use super::lent::{copy_in, sixteen};
 fn counter_key(counter: Counter, number: u64) -> [u8; 16]
     ensures { result ≡ wide_keys_from (halves counter.low counter.high) number }
 {
-    let at = count_on(counter, number);
-    let low = at.low;
-    let high = at.high;
-    [
-        (low % 0x100) as u8,
-        (low / 0x100 % 0x100) as u8,
-        (low / 0x1_0000 % 0x100) as u8,
-        (low / 0x100_0000 % 0x100) as u8,
-        (low / 0x1_0000_0000 % 0x100) as u8,
-        (low / 0x100_0000_0000 % 0x100) as u8,
-        (low / 0x1_0000_0000_0000 % 0x100) as u8,
-        (low / 0x100_0000_0000_0000 % 0x100) as u8,
-        (high % 0x100) as u8,
-        (high / 0x100 % 0x100) as u8,
-        (high / 0x1_0000 % 0x100) as u8,
-        (high / 0x100_0000 % 0x100) as u8,
-        (high / 0x1_0000_0000 % 0x100) as u8,
-        (high / 0x100_0000_0000 % 0x100) as u8,
-        (high / 0x1_0000_0000_0000 % 0x100) as u8,
-        (high / 0x100_0000_0000_0000 % 0x100) as u8,
-    ]
+    let Counter { low, high } = count_on(counter, number);
+    let mut key = [0u8; 16];
+    key[..8].copy_from_slice(&low.to_le_bytes());
+    key[8..].copy_from_slice(&high.to_le_bytes());
+    key
 }
 
 // The word j is that of the number `first` + j.

@@ -12,23 +12,13 @@ pub(crate) fn zeros_from(bytes: &[u8], at: usize) -> bool
     requires { at ≤ length bytes.now }
     ensures { result ≡ all_zero (drop at bytes.now) }
 {
-    let mut i = at;
-    while i < bytes.len() {
-        if bytes[i] != 0 {
-            return false;
-        }
-        i += 1;
-    }
-    true
+    bytes[at..].iter().all(|x| *x == 0)
 }
 
 pub(crate) fn clear(bytes: &mut [u8])
     ensures { bytes.new ≡ replicate (length bytes.old) 0 }
 {
-    let n = bytes.len();
-    for i in 0..n {
-        bytes[i] = 0;
-    }
+    bytes.fill(0);
 }
 
 // Compresses the waiting block, by the sizes of mode and digest length.

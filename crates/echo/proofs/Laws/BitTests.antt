@@ -1,6 +1,5 @@
 -- What the code computes of bits: whether they are zero from a place on, and the byte with the marking bit. Assumes nothing.
 use Rattle.std.proofs.Common.{◌≡◌, ℕ, suc, ◌+◌, ◌-◌, ◌*◌, ◌/◌, ◌%◌, ◌^◌, ◌<◌, ◌≤◌, Bool, true, false, not, ◌&&◌, T, eqb, ltb, List, length, get_or, drop, sym, refl, ap, ◌∙◌, subst, add-one, arith, ltb→lt, drop_of_length-le}
-use borrow.Author.Tests.{not-false, not-true}
 use Rattle.aes_round.proofs.Promises.{agree, below, every}
 use Rattle.echo.specs.Bits.{bits_of, byte_bits}
 use Rattle.echo.specs.Families.{either}
@@ -46,19 +45,19 @@ module _ (bytes : List ℕ) (at : ℕ) where
       let past : length (bits_of bytes) ≤ at = omega (arith, length-bits bytes) in
       sym (ap all_zero (drop_of_length-le (bits_of bytes) past))
 
-  module _ (inside : at / 8 < length bytes) (t : Bool) (e : t ≡ all_zero (drop (at % 8) (byte_bits (get_or bytes (at / 8) 0)))) where
+  module _ (inside : at / 8 < length bytes) (x : ℕ) (here : x ≡ get_or bytes (at / 8) 0) (t : Bool) (e : t ≡ all_zero (drop (at % 8) (byte_bits x))) where
     split : all_zero (drop at (bits_of bytes)) ≡ (t && all_zero (drop (suc (at / 8)) bytes))
     split =
         let n : at ≡ 8 * (at / 8) + at % 8 = omega arith in
         ap (λ (k : ℕ). all_zero (drop k (bits_of bytes))) n
         ∙ zero_within bytes (at / 8) (at % 8) inside (omega arith)
-        ∙ ap (λ (b : Bool). b && all_zero (drop (suc (at / 8)) bytes)) (sym e)
+        ∙ ap (λ (b : Bool). b && all_zero (drop (suc (at / 8)) bytes)) (sym (e ∙ ap (λ (y : ℕ). all_zero (drop (at % 8) (byte_bits y))) here))
 
-    pub zero_not : not t ≡ true → false ≡ all_zero (drop at (bits_of bytes))
-    zero_not fails = sym (split ∙ ap (λ (b : Bool). b && all_zero (drop (suc (at / 8)) bytes)) (not-true t fails))
+    pub zero_not : t ≡ false → t ≡ all_zero (drop at (bits_of bytes))
+    zero_not fails = fails ∙ sym (split ∙ ap (λ (b : Bool). b && all_zero (drop (suc (at / 8)) bytes)) fails)
 
-    pub zero_rest : not t ≡ false → (r : Bool) → r ≡ all_zero (drop (at / 8 + 1) bytes) → r ≡ all_zero (drop at (bits_of bytes))
+    pub zero_rest : t ≡ true → (r : Bool) → r ≡ all_zero (drop (at / 8 + 1) bytes) → r ≡ all_zero (drop at (bits_of bytes))
     zero_rest holds r z =
         z
         ∙ ap (λ (k : ℕ). all_zero (drop k bytes)) (add-one (at / 8))
-        ∙ sym (split ∙ ap (λ (b : Bool). b && all_zero (drop (suc (at / 8)) bytes)) (not-false t holds))
+        ∙ sym (split ∙ ap (λ (b : Bool). b && all_zero (drop (suc (at / 8)) bytes)) holds)

@@ -1,5 +1,5 @@
 -- The marked examples of counters and padding, the sizes of both modes, and counting past a half, by computation. Assumes nothing.
-use Rattle.std.proofs.Common.{◌≡◌, ℕ, zero, suc, ◌-◌, ◌*◌, ◌^◌, ◌<◌, List, [], ◌∷◌, ◌++◌, get_or, replicate, sym, refl, ap, ◌∙◌, arith, lit<}
+use Rattle.std.proofs.Common.{◌≡◌, ℕ, zero, suc, ◌-◌, ◌*◌, ◌^◌, ◌<◌, List, [], ◌∷◌, ◌++◌, get_or, replicate, sym, refl, ap, ap₂, ◌∙◌, arith, lit<}
 use Rattle.aes_round.specs.Bytes.{tab}
 use Rattle.aes_round.specs.Marked.{Hold, ◌gives◌}
 use Rattle.aes_round.proofs.Promises.{is_tab}
@@ -9,8 +9,8 @@ use Rattle.echo.specs.Digest.{block_count, counter_at}
 use Rattle.echo.specs.Families.{block_size, chaining_size, mode_number, round_count}
 use Rattle.echo.specs.Numbers.{little_endian}
 use Rattle.echo.specs.Padding.{pad, padding}
-use Rattle.echo.specs.Square.{wide_keys_from}
-use Rattle.echo.proofs.Laws.Numbers.{lengths_are, wide_key_at}
+use Rattle.echo.specs.Square.{wide_key, wide_keys_from}
+use Rattle.echo.proofs.Laws.Numbers.{little_are}
 use Rattle.echo.proofs.Laws.Padded.{pad_bytes}
 
 -- two numbers in order
@@ -35,16 +35,19 @@ pub counters_192 : tab (block_count msize (8 * 192)) (counter_at msize (8 * 192)
 unfolding block_size chaining_size block_count counter_at
 counters_192 = two_are (counter_at 1536 1536) 2 1536 0 refl refl refl
 
+size : little_endian 2 256 ≡ 0x00 ∷ 0x01 ∷ []
+size = little_are 2 256 (0x00 ∷ 0x01 ∷ []) refl tt
+
 pub empty_padded : packed (pad msize 256 (bits_of [])) ≡ 0x80 ∷ (replicate 173 0 ++ (0x00 ∷ 0x01 ∷ replicate 16 0))
 unfolding block_size chaining_size
-empty_padded = pad_bytes 192 (lit< tt) 256 [] ∙ ap (λ (e : List ℕ). 0x80 ∷ (replicate 173 0 ++ e)) (sym (lengths_are 256 0 (lit< tt)))
+empty_padded = pad_bytes 192 (lit< tt) 256 [] ∙ ap (λ (e : List ℕ). 0x80 ∷ (replicate 173 0 ++ e)) (ap₂ (λ (h l : List ℕ). h ++ l) size (little_are 16 0 (replicate 16 0) refl tt))
 
 pub abc_padded : packed (pad msize 256 (bits_of (0x61 ∷ 0x62 ∷ 0x63 ∷ [])))
     ≡ 0x61 ∷ 0x62 ∷ 0x63 ∷ 0x80 ∷ (replicate 170 0 ++ (0x00 ∷ 0x01 ∷ 0x18 ∷ replicate 15 0))
 unfolding block_size chaining_size
 abc_padded =
     pad_bytes 192 (lit< tt) 256 (0x61 ∷ 0x62 ∷ 0x63 ∷ [])
-    ∙ ap (λ (e : List ℕ). 0x61 ∷ 0x62 ∷ 0x63 ∷ 0x80 ∷ (replicate 170 0 ++ e)) (sym (lengths_are 256 24 (lit< tt)))
+    ∙ ap (λ (e : List ℕ). 0x61 ∷ 0x62 ∷ 0x63 ∷ 0x80 ∷ (replicate 170 0 ++ e)) (ap₂ (λ (h l : List ℕ). h ++ l) size (little_are 16 24 (0x18 ∷ replicate 15 0) refl tt))
 
 -- 1391 bits fill one block with their padding, and 1392 need a second; so on each side of the edge in the other sizes
 pub last_of_one_block : Hold
@@ -77,10 +80,5 @@ pub past_a_half : Hold
     ∷ (wide_keys_from (2 ^ 128 - 1) 0 gives replicate 16 255)
     ∷ (wide_keys_from (2 ^ 128 - 1) 1 gives replicate 16 0)
     ∷ [])
-past_a_half = (
-  sym (wide_key_at (2 ^ 64 - 1) 0 (2 ^ 64 - 1) refl (lit< tt)),
-  (
-    sym (wide_key_at 0 1 (2 ^ 64) refl (lit< tt)),
-    (sym (wide_key_at (2 ^ 64 - 1) (2 ^ 64 - 1) (2 ^ 128 - 1) refl (lit< tt)), (sym (wide_key_at 0 0 0 refl (lit< tt)), tt)),
-  ),
-)
+unfolding wide_key
+past_a_half = (little_are 16 _ _ refl tt, (little_are 16 _ _ refl tt, (little_are 16 _ _ refl tt, (little_are 16 _ _ refl tt, tt))))

@@ -1,9 +1,11 @@
 -- Numbers as bytes. Assumes nothing.
-use Rattle.std.proofs.Common.{◌≡◌, ℕ, zero, suc, ◌+◌, ◌-◌, ◌*◌, ◌/◌, ◌%◌, ◌^◌, ◌<◌, ◌≤◌, T, eqb, List, [], ◌∷◌, ◌++◌, length, get_or, replicate, sym, refl, ap, ◌∙◌, ap₂, ⊎_elim, append-nil, lt_of_lt_of_le, mod-lt, mul_assoc, mul_comm, pow-suc, zero-add, div-one, arith, lit<, length-append, pow-add}
+use Rattle.std.proofs.Common.{◌≡◌, ℕ, zero, suc, ◌+◌, ◌-◌, ◌*◌, ◌/◌, ◌%◌, ◌^◌, ◌<◌, ◌≤◌, T, eqb, List, [], ◌∷◌, ◌++◌, length, get_or, replicate, sym, refl, ap, ◌∙◌, ap₂, ⊎_elim, append-nil, lt_of_lt_of_le, mod-lt, mul_assoc, mul_comm, pow-suc, zero-add, div-one, arith, lit<, length-append, pow-add, drop, drop_at, drop_of_length-le, take_at}
 use native.Mathlib.Nat.{add-mul-div_left, add-mul-mod_self_left, div-div-eq-div-mul, div-eq_of_lt}
 use native.Mathlib.Nat.{one-le-pow, pow-le-pow_right}
 use lib.ListN.{get_or-replicate}
-use Rattle.aes_round.specs.Bytes.{Bytes, tab}
+use Rattle.std.specs.Int.{byte_at, bytes_low_first}
+use borrow.Rule.Slice.PartMut.{put_mid}
+use Rattle.aes_round.specs.Bytes.{Bytes, tab, tab_from}
 use Rattle.aes_round.proofs.Promises.{agree, bytes_are, every, get_or-tab, is_tab, length-tab, lt_or_le, tab_bytes}
 use Rattle.echo.specs.Numbers.{little_endian}
 use Rattle.echo.specs.Numbers.{halves}
@@ -19,36 +21,29 @@ pub little_are : (n x : ℕ) (l : List ℕ) → length l ≡ n → T (every (λ 
 unfolding little_endian
 little_are n x l e t = sym (is_tab n l _ e (agree (λ k. get_or l k 0) (λ k. x / 256 ^ k % 256) n t))
 
--- the eight bytes of a number, written out in front of others
-abbrev eight_before : ℕ → List ℕ → List ℕ
-eight_before κ l =
-    κ % 0x100 ∷ κ / 0x100 % 0x100 ∷ κ / 0x10000 % 0x100 ∷ κ / 0x1000000 % 0x100
-    ∷ κ / 0x100000000 % 0x100 ∷ κ / 0x10000000000 % 0x100 ∷ κ / 0x1000000000000 % 0x100 ∷ κ / 0x100000000000000 % 0x100 ∷ l
+pub little_byte : (n x k : ℕ) → k < n → get_or (little_endian n x) k 0 ≡ x / 256 ^ k % 256
+unfolding little_endian
+little_byte n x k h = get_or-tab n _ k h
 
-module _ (κ : ℕ) where
-  eight : List ℕ
-  eight = eight_before κ []
+-- the bytes that std writes, from byte i upward and from the first one on
+low_first : (i n x : ℕ) → bytes_low_first i n x ≡ tab_from i n (λ k. x / 256 ^ k % 256)
+low_first i zero x = refl
+low_first i (suc n) x = ap₂ (λ (b : ℕ) (l : List ℕ). b ∷ l) (byte i) (low_first (suc i) n x)
+  where
+    byte : (i : ℕ) → byte_at i x ≡ x / 256 ^ i % 256
+    byte zero = ap (λ (y : ℕ). y % 256) (sym (div-one x))
+    byte (suc i) = refl
 
-  eight_are : (i : ℕ) → i < 8 → get_or eight i 0 ≡ κ / 256 ^ i % 256
-  unfolding eight
-  eight_are zero h = ap (λ (x : ℕ). x % 256) (sym (div-one κ))
-  eight_are (suc zero) h = refl
-  eight_are (suc (suc zero)) h = refl
-  eight_are (suc (suc (suc zero))) h = refl
-  eight_are (suc (suc (suc (suc zero)))) h = refl
-  eight_are (suc (suc (suc (suc (suc zero))))) h = refl
-  eight_are (suc (suc (suc (suc (suc (suc zero)))))) h = refl
-  eight_are (suc (suc (suc (suc (suc (suc (suc zero))))))) h = refl
-  eight_are (suc (suc (suc (suc (suc (suc (suc (suc i)))))))) h = absurd (omega arith)
+pub le_bytes_are : (n x : ℕ) → bytes_low_first 0 n x ≡ little_endian n x
+unfolding little_endian tab
+le_bytes_are n x = low_first 0 n x
 
-  eight_before_lem : (l : List ℕ) → eight_before κ l ≡ little_endian 8 κ ++ l
-  unfolding eight little_endian
-  eight_before_lem l = ap (λ (e : List ℕ). e ++ l) (is_tab 8 eight _ refl eight_are)
-
-  -- the eight bytes of a counter and eight zeros
-  pub counter_key_is : eight_before κ (replicate 8 0) ≡ counter_key κ
-  unfolding counter_key
-  counter_key_is = eight_before_lem (replicate 8 0)
+-- bytes written in two parts, the second over zeros
+pub two_parts : (m n : ℕ) (x y z : List ℕ) → length x ≡ m → length z ≡ n → put_mid m n (x ++ z) y ≡ x ++ y
+two_parts m n x y z lx lz =
+    ap₂ (λ (a b : List ℕ). a ++ (y ++ b)) (take_at x z m lx)
+    (ap (drop n) (drop_at x z m lx) ∙ drop_of_length-le z (let all : length z ≤ n = omega arith in all))
+    ∙ ap (λ (l : List ℕ). x ++ l) (append-nil y)
 
 -- a counter's key is a word
 pub key_bytes : (κ : ℕ) → Bytes 16 (counter_key κ)
@@ -114,10 +109,12 @@ unfolding wide_key
 wide_key_halves = little_parts 8 8
 
 -- as the code has them
-pub wide_key_at : (low high κ : ℕ) → halves low high ≡ κ → low < 2 ^ 64 → eight_before low (eight_before high []) ≡ wide_key κ
-wide_key_at low high κ at h =
-    eight_before_lem low _
-    ∙ ap (λ (l : List ℕ). little_endian 8 low ++ l) (eight_before_lem high [] ∙ append-nil _)
+pub wide_key_at : (low high κ : ℕ) (x y z : List ℕ) → halves low high ≡ κ → low < 2 ^ 64 → x ≡ bytes_low_first 0 8 low → y ≡ bytes_low_first 0 8 high
+    → length z ≡ 8 → put_mid 8 8 (x ++ z) y ≡ wide_key κ
+unfolding little_endian
+wide_key_at low high κ x y z at h e f lz =
+    two_parts 8 8 x y z (ap length (e ∙ le_bytes_are 8 low) ∙ length-tab 8 _) lz
+    ∙ ap₂ (λ (a b : List ℕ). a ++ b) (e ∙ le_bytes_are 8 low) (f ∙ le_bytes_are 8 high)
     ∙ sym (wide_key_halves low high h)
     ∙ ap wide_key at
 
@@ -134,32 +131,10 @@ sixteen_of_eight x h = ap (little_endian 16) (alone x) ∙ little_parts 8 8 x 0 
         sym (is_tab 8 (replicate 8 0) _ refl
         (λ i h. get_or-replicate 8 i 0 0 h ∙ sym (ap (λ (q : ℕ). q % 256) (div-eq_of_lt (one-le-pow i 256 (lit< tt))))))
 
-module _ (bits count : ℕ) (h : count < 2 ^ 64) where
-  two_are : (i : ℕ) → i < 2 → get_or (bits % 0x100 ∷ bits / 0x100 % 0x100 ∷ []) i 0 ≡ bits / 256 ^ i % 256
-  two_are zero l = ap (λ (x : ℕ). x % 256) (sym (div-one bits))
-  two_are (suc zero) l = refl
-  two_are (suc (suc i)) l = absurd (omega arith)
-
-  two : bits % 0x100 ∷ bits / 0x100 % 0x100 ∷ [] ≡ little_endian 2 bits
-  unfolding little_endian
-  two = is_tab 2 (bits % 0x100 ∷ bits / 0x100 % 0x100 ∷ []) _ refl two_are
-
-  -- the end of the padding, written out
-  pub lengths_are : bits % 0x100 ∷ bits / 0x100 % 0x100 ∷ eight_before count (replicate 8 0) ≡ little_endian 2 bits ++ little_endian 16 count
-  lengths_are =
-      ap (λ (l : List ℕ). bits % 0x100 ∷ bits / 0x100 % 0x100 ∷ l) (counter_key_is count ∙ sym (sixteen_of_eight count h))
-      ∙ ap (λ (l : List ℕ). l ++ little_endian 16 count) two
-
--- the bytes of a digest length: two, and zeros
-pub length_byte_low : (h : ℕ) → h % 256 ≡ h / 256 ^ 0 % 256
-length_byte_low h = ap (λ (x : ℕ). x % 256) (sym (div-one h))
-
-pub length_byte_none : (h i : ℕ) → h ≤ 512 → (i ≡ 0 → ⊥) → (i ≡ 1 → ⊥) → 0 ≡ h / 256 ^ i % 256
-length_byte_none h i l a b =
-    sym (ap (λ (q : ℕ). q % 256) (div-eq_of_lt (lt_of_lt_of_le (less l) (pow-le-pow_right {n = 256} (lit< tt) (two a b)))))
-  where
-    two : (i ≡ 0 → ⊥) → (i ≡ 1 → ⊥) → 2 ≤ i
-    two a b = omega arith
-
-    less : h ≤ 512 → h < 256 ^ 2
-    less l = omega arith
+-- the end of the padding
+pub lengths_are : (bits count : ℕ) (x y z : List ℕ) → x ≡ bytes_low_first 0 2 bits → y ≡ bytes_low_first 0 16 count → length z ≡ 16
+    → put_mid 2 16 (x ++ z) y ≡ little_endian 2 bits ++ little_endian 16 count
+unfolding little_endian
+lengths_are bits count x y z e f lz =
+    two_parts 2 16 x y z (ap length (e ∙ le_bytes_are 2 bits) ∙ length-tab 2 _) lz
+    ∙ ap₂ (λ (a b : List ℕ). a ++ b) (e ∙ le_bytes_are 2 bits) (f ∙ le_bytes_are 16 count)

@@ -1,7 +1,10 @@
 -- Bytes put into a lent slice: what a loop that stores them does turn by turn, and what its result is. Assumes nothing.
 use Rattle.std.proofs.Common.{◌≡◌, ℕ, ◌+◌, ◌-◌, ◌<◌, ◌≤◌, List, ◌++◌, length, get_or, take, drop, set, replicate, sym, refl, ap, ◌∙◌, subst, ⊎_elim, not-suc-le-zero, zero-add, arith, length-append, length-drop, length-set, length-take-le, get_or-drop, get_or-set_other, get_or-take, get_or-set_same, below_more}
 use lib.ListN.{length-replicate}
-use Rattle.aes_round.proofs.Promises.{Filled, lt_or_le, same_list}
+use Rattle.std.specs.List.{between}
+use Rattle.std.proofs.lemmas.List.Edits.{get_or-between}
+use Rattle.aes_round.specs.Bytes.{tab}
+use Rattle.aes_round.proofs.Promises.{Filled, is_tab, lt_or_le, same_list}
 use Rattle.echo.specs.Placed.{Placed}
 use Rattle.echo.proofs.Laws.Joined.{first_part, second_part}
 
@@ -94,3 +97,10 @@ cleared w z i x m e l = e ∙ ap (λ (n : ℕ). replicate n 0) (length-set w i x
 
 pub length_cleared : (w z : List ℕ) (i x m : ℕ) → z ≡ replicate (length (set w i x)) 0 → length w ≡ m → length z ≡ m
 length_cleared w z i x m e l = ap length (cleared w z i x m e l) ∙ length-replicate m 0
+
+-- ---- bytes read from a place on
+
+pub part_bytes : (src r : List ℕ) (at n : ℕ) → r ≡ between at (at + n) src → at + n ≤ length src → r ≡ tab n (λ k. get_or src (at + k) 0)
+part_bytes src r at n e h =
+    e ∙ is_tab n (between at (at + n) src) _ (length-take-le (at + n - at) (drop at src) (omega (arith, length-drop at src)) ∙ (let long : at + n - at ≡ n = omega arith in long))
+    (λ k lt. get_or-between src at (at + n) k 0 (omega arith))

@@ -1,11 +1,11 @@
 -- Words moved along the rows of a square, in place: a word pulled up, a row turned by one place and by many, and all four rows. Assumes nothing.
-use Rattle.std.proofs.Common.{◌≡◌, ℕ, ◌+◌, ◌-◌, ◌*◌, ◌/◌, ◌%◌, ◌<◌, ◌≤◌, ◌≢◌, List, length, get_or, set, sym, refl, ap, ◌∙◌, subst, ⊎_elim, arith, below_none, below_more}
+use Rattle.std.proofs.Common.{◌≡◌, ℕ, ◌+◌, ◌-◌, ◌*◌, ◌/◌, ◌%◌, ◌<◌, ◌≤◌, ◌≢◌, List, length, get_or, sym, refl, ap, ◌∙◌, subst, ⊎_elim, arith, below_none, below_more}
+use Rattle.std.specs.List.{CopiedTo, SameBelow, SameFrom}
 use Rattle.aes_round.specs.Array.{entry}
 use Rattle.aes_round.specs.Bytes.{tab}
 use Rattle.aes_round.proofs.Promises.{agree, entry_is, is_array, is_tab, length_shift, length_shift_back, length-tab, lt_or_le, tab_ext}
 use Rattle.echo.specs.Placed.{Placed}
 use Rattle.echo.specs.Square.{big_shift_rows, big_shift_rows_back, word}
-use Rattle.echo.proofs.Laws.Placed.{place_more}
 use Rattle.echo.proofs.Laws.Square.{get_or-word}
 use Rattle.echo.proofs.Laws.Words.{shifted_back_word, shifted_word, word_is}
 
@@ -29,13 +29,20 @@ length_back : (s : List ℕ) → length (big_shift_rows_back s) ≡ 256
 unfolding big_shift_rows_back
 length_back = length_shift_back 16
 
--- ---- a word that becomes the next one of its row, byte by byte
+-- ---- a word that becomes the next one of its row
 
-pub pull_more : (l r : List ℕ) (e k : ℕ) → Placed l (16 * e) (word l (e + 4)) k r → length l ≡ 256 → e < 12 → k < 16
-    → Placed l (16 * e) (word l (e + 4)) (k + 1) (set r (16 * e + k) (get_or r (16 * (e + 4) + k) 0))
-pull_more l r e k P long low h =
-    place_more l (16 * e) (word l (e + 4)) k r _ P (omega arith)
-    (P.behind (16 * (e + 4) + k) (omega arith) ∙ sym (entry_is 16 l (e + 4) k) ∙ sym (get_or-word l (e + 4) k h))
+pub pulled : (l r : List ℕ) (e : ℕ) → length r ≡ length l → CopiedTo l r (16 * (e + 4)) (16 * e) (16 * (e + 5) - 16 * (e + 4)) → SameBelow l r (16 * e)
+    → SameFrom l r (16 * e + (16 * (e + 5) - 16 * (e + 4))) → Placed l (16 * e) (word l (e + 4)) 16 r
+pulled l r e long copied below from = record {
+  long = long;
+  before = λ k h. below k 0 h;
+  inside = λ k h.
+      copied (16 * e + k) 0 (omega arith) (omega arith) ∙ ap (λ (i : ℕ). get_or l i 0) (place k) ∙ sym (entry_is 16 l (e + 4) k) ∙ sym (get_or-word l (e + 4) k h);
+  behind = λ k h. from k 0 (omega arith);
+}
+  where
+    place : (k : ℕ) → 16 * (e + 4) + (16 * e + k - 16 * e) ≡ 16 * (e + 4) + k
+    place k = omega arith
 
 -- ---- the words of a square into which a word was put
 

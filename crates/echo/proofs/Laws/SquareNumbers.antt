@@ -1,20 +1,24 @@
 -- The square as 64 numbers of 32 bits, four for each word. Assumes nothing.
-use Rattle.std.proofs.Common.{◌≡◌, ℕ, zero, suc, ◌+◌, ◌*◌, ◌/◌, ◌%◌, ◌<◌, ◌≤◌, List, [], ◌∷◌, length, get_or, set, sym, refl, ap, ◌∙◌, subst, ap₂, add-zero, add_assoc, mul-zero, arith, lit<}
+use Rattle.std.proofs.Common.{◌≡◌, ℕ, zero, suc, ◌+◌, ◌-◌, ◌*◌, ◌/◌, ◌%◌, ◌<◌, ◌≤◌, List, [], ◌∷◌, length, get_or, set, sym, refl, ap, ◌∙◌, subst, ap₂, add-zero, add_assoc, mul-zero, arith, lit<}
+use borrow.Rule.Slice.PartMut.{put_mid}
+use Rattle.std.specs.Int.{bytes_low_first}
 use Rattle.aes_round.specs.Bytes.{tab}
 use Rattle.aes_round.specs.Numbers.{byte_of, bytes_of, number, numbers}
-use Rattle.aes_round.proofs.Promises.{Filled, are_bytes_of, are_numbers, byte_0, byte_is, byte_of_numbers, bytes_of_bytes, four_numbers, get_or-numbers}
+use Rattle.aes_round.proofs.Promises.{Filled, are_bytes_of, byte_of_numbers, bytes_of_bytes, fill_all, four_numbers, get_or-numbers}
 use Rattle.aes_round.proofs.Promises.{get_or-tab, length-tab, number_ext, number_of_lem, same_list}
+use Rattle.echo.specs.Numbers.{little_endian}
 use Rattle.echo.specs.Placed.{Placed}
 use Rattle.echo.specs.Square.{word}
-use Rattle.echo.proofs.Laws.Placed.{fill_part, place_more, place_none}
+use Rattle.echo.proofs.Laws.Numbers.{le_bytes_are}
+use Rattle.echo.proofs.Laws.Placed.{fill_part, part_placed}
 use Rattle.echo.proofs.Laws.Words.{word_is}
 
 -- ---- bytes as numbers
 
-pub number_at : (s : List ℕ) (at r : ℕ) → r ≡ get_or s at 0 + 0x100 * get_or s (at + 1) 0 + 0x10000 * get_or s (at + 2) 0 + 0x1000000 * get_or s (at + 3) 0
+pub number_at : (s : List ℕ) (at r : ℕ) → r ≡ get_or s at 0 + get_or s (at + 1) 0 * 0x100 + get_or s (at + 2) 0 * 0x10000 + get_or s (at + 3) 0 * 0x1000000
     → r ≡ number (λ p. get_or s (at + p) 0)
 number_at s at r e =
-    e
+    (let turned : r ≡ get_or s at 0 + 0x100 * get_or s (at + 1) 0 + 0x10000 * get_or s (at + 2) 0 + 0x1000000 * get_or s (at + 3) 0 = omega arith in turned)
     ∙ ap (λ (i : ℕ). get_or s i 0 + 0x100 * get_or s (at + 1) 0 + 0x10000 * get_or s (at + 2) 0 + 0x1000000 * get_or s (at + 3) 0) (sym (add-zero at))
     ∙ number_of_lem (λ p. get_or s (at + p) 0)
 
@@ -26,25 +30,25 @@ word_numbers w a b c d ea eb ec ed = rw (ea, eb, ec, ed) (four_numbers w)
 abbrev pub number_of : List ℕ → ℕ → ℕ
 number_of s k = number (λ p. get_or s (4 * k + p) 0)
 
+pub numbers_made : (s : List ℕ) → tab 64 (number_of s) ≡ numbers 64 s
+unfolding numbers
+numbers_made s = refl
+
 pub square_numbers : (s l r : List ℕ) (k : ℕ) → Filled 64 (number_of s) l k r → 64 ≤ k → r ≡ numbers 64 s
-square_numbers s l r k F h = are_numbers 64 s r F.long (λ i lt. F.done i (omega arith))
+square_numbers s l r k F h = fill_all 64 (number_of s) l k r F h ∙ numbers_made s
 
 -- ---- numbers as bytes
 
--- a number's four bytes, stored one after the other
-pub number_put : (s : List ℕ) (at x : ℕ) → at + 4 ≤ length s
-    → Placed s at (tab 4 (byte_of x)) 4
-    (set (set (set (set s at (x % 0x100)) (at + 1) (x / 0x100 % 0x100)) (at + 2) (x / 0x10000 % 0x100)) (at + 3) (x / 0x1000000 % 0x100))
-number_put s at x h = on 3 _ _ (on 2 _ _ (on 1 _ _ first (sym (byte_is x 1)) (lit< tt)) (sym (byte_is x 2)) (lit< tt)) (sym (byte_is x 3)) (lit< tt)
-  where
-    w : List ℕ
-    w = tab 4 (byte_of x)
+-- a number's four bytes, stored where they belong
+stored_bytes : (x : ℕ) → bytes_low_first 0 4 x ≡ tab 4 (byte_of x)
+unfolding little_endian byte_of
+stored_bytes = le_bytes_are 4
 
-    on : (i : ℕ) (r : List ℕ) (v : ℕ) → Placed s at w i r → v ≡ byte_of x i → i < 4 → Placed s at w (i + 1) (set r (at + i) v)
-    on i r v P e l = place_more s at w i r v P (omega arith) (e ∙ sym (get_or-tab 4 (byte_of x) i l))
-
-    first : Placed s at w 1 (set s at (x % 0x100))
-    first = subst (λ (i : ℕ). Placed s at w 1 (set s i (x % 0x100))) (add-zero at) (on 0 s _ (place_none s at w) (byte_0 x) (lit< tt))
+pub number_put : (s y : List ℕ) (at x : ℕ) → y ≡ bytes_low_first 0 4 x → at + 4 ≤ length s → Placed s at (tab 4 (byte_of x)) 4 (put_mid at (at + 4 - at) s y)
+number_put s y at x e h =
+    let bytes : y ≡ tab 4 (byte_of x) = e ∙ stored_bytes x in
+    subst (λ (n : ℕ). Placed s at (tab 4 (byte_of x)) 4 (put_mid at n s y)) (let size : 4 ≡ at + 4 - at = omega arith in size)
+    (subst (λ (w : List ℕ). Placed s at w 4 (put_mid at 4 s y)) bytes (part_placed s y at 4 h (ap length bytes ∙ length-tab 4 _)))
 
 -- byte after byte: those of the numbers l
 abbrev pub byte_at : List ℕ → ℕ → ℕ

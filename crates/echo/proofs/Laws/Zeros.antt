@@ -1,5 +1,6 @@
 -- Lists of which every byte, or bit, is zero. Assumes nothing.
 use Rattle.std.proofs.Common.{◌≡◌, ℕ, zero, suc, ◌+◌, ◌-◌, ◌≤◌, Bool, true, false, ◌&&◌, eqb, List, [], ◌∷◌, ◌++◌, length, get_or, drop, replicate, sym, refl, ap, ◌∙◌, ap₂, true≢false, arith, get_or-drop, eqb-true}
+use Rattle.std.specs.List.{list_all}
 use Rattle.echo.specs.Session.{all_zero}
 
 -- a test that came out true came through each of its parts
@@ -45,3 +46,9 @@ zero_from w u k e h = ap (λ (i : ℕ). get_or w i 0) (sym (on k h)) ∙ sym (ge
   where
     on : (k : ℕ) → u ≤ k → u + (k - u) ≡ k
     on k h = omega arith
+
+-- the test of each element
+pub zeros_all : (l : List ℕ) → list_all (λ x. eqb x 0) l ≡ all_zero l
+unfolding all_zero
+zeros_all [] = refl
+zeros_all (x ∷ l) = ap (λ (b : Bool). eqb x 0 && b) (zeros_all l)

@@ -1,17 +1,12 @@
--- `initial` meets its contract: the loop fills the room from the front, as far as the family uses it. Assumes nothing.
-use Rattle.std.proofs.Common.{refl, rules}
-use Rattle.aes_round.proofs.Promises.{fill_more, fill_none}
-use Rattle.echo.proofs.Laws.Initial.{in_room, initial_filled}
+-- `initial` meets its contract: the bytes in use, and zeros behind. Assumes nothing.
+use Rattle.echo.proofs.Laws.Initial.{in_part, in_room, initial_made}
 use Rattle.echo.proofs.initial.initial.Goals as goal
 
-pub loop-k-init : goal.loop-k-init
-loop-k-init c = (search rules, fill_none _ _ _ refl)
+pub slice_bounds-v-end : goal.slice_bounds-v-end
+slice_bounds-v-end c = search in_room
 
-pub bounds-v-k : goal.bounds-v-k
-bounds-v-k c = search in_room
-
-pub loop-k-preserved : goal.loop-k-preserved
-loop-k-preserved c = (search rules, search (fill_more, in_room))
+pub slice_bounds-repeat-end : goal.slice_bounds-repeat-end
+slice_bounds-repeat-end c = search in_part
 
 pub returns : goal.returns
-returns c = search initial_filled
+returns c = initial_made c.args.mode c.args.bits _ c.chaining_size-c.ensures _ _ c.to_le_bytes.ensures c.repeat.ensures

@@ -1,13 +1,6 @@
--- `sixteen` meets its contract: the loop fills the word from the front. Assumes nothing.
-use Rattle.std.proofs.Common.{rules}
-use Rattle.aes_round.proofs.Promises.{fill_all, fill_more, fill_none}
+-- `sixteen` meets its contract: the part that is copied, byte by byte. Assumes nothing.
+use Rattle.echo.proofs.Laws.Placed.{part_bytes}
 use Rattle.echo.proofs.lent.sixteen.Goals as goal
 
-pub loop-k-init : goal.loop-k-init
-loop-k-init c = fill_none _ _ _ (search rules)
-
-pub loop-k-preserved : goal.loop-k-preserved
-loop-k-preserved c = search fill_more
-
 pub returns : goal.returns
-returns c = search fill_all
+returns c = part_bytes _ _ _ 16 c.copy_from_slice.ensures.after c.requires

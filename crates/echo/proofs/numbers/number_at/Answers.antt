@@ -3,4 +3,4 @@ use Rattle.echo.proofs.Laws.SquareNumbers.{number_at}
 use Rattle.echo.proofs.numbers.number_at.Goals as goal
 
 pub returns : goal.returns
-returns c = search number_at
+returns c = number_at _ _ _ c.from_le_bytes.ensures

@@ -5,4 +5,4 @@ use Rattle.echo.proofs.Laws.SquareNumbers.{byte_at}
 use Rattle.echo.proofs.numbers.put_numbers.Given as goal
 
 abbrev pub invariant-loop-k : goal.invariant-loop-k
-invariant-loop-k l = (l.k ≤ 64) × Filled 256 (byte_at l.r) l.initial.s (4 * l.k) l.s
+invariant-loop-k l = (l.k ≤ 64) × Filled 256 (byte_at l.x-items) l.initial.s (4 * l.k) l.s

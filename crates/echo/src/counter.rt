@@ -13,10 +13,10 @@ pub(crate) struct Counter {
 pub(crate) fn count_on(counter: Counter, words: u64) -> Counter
     ensures { halves result.low result.high ≡ (halves counter.low counter.high + words) % 2 ^ 128 }
 {
-    let low = std::num::wrapping_add_u64(counter.low, words);
+    let low = counter.low.wrapping_add(words);
     // A sum that went over is below what was added to it, and no other is.
     if low < words {
-        let high = std::num::wrapping_add_u64(counter.high, 1);
+        let high = counter.high.wrapping_add(1);
         return Counter { low, high };
     }
     Counter {

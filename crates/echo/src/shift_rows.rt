@@ -1,5 +1,5 @@
 // BIG.ShiftRows (section 3.2) and its way back: whole words are moved along the rows of the square, in place, with one spare word.
-ghost use Rattle.std.specs.Prelude.{◌≡◌, ℕ, ◌+◌, ◌*◌, ◌%◌, ◌<◌, ◌≢◌, length};
+ghost use Rattle.std.specs.Prelude.{◌≡◌, ℕ, ◌+◌, ◌*◌, ◌/◌, ◌%◌, ◌<◌, ◌≢◌, length};
 ghost use Rattle.echo.specs.Placed.{Placed};
 ghost use Rattle.echo.specs.Square.{big_shift_rows, big_shift_rows_back, word};
 
@@ -41,22 +41,29 @@ fn turn_row(s: &mut [u8], i: usize, places: usize)
     }
 }
 
-// Row i is turned by i places to the left; row 0 stays.
+// Each row i is turned by so many places to the left as `places` says of it; row 0 stays.
+fn turn_rows<F: Fn(usize) -> usize>(s: &mut [u8], places: F)
+    requires callable { (i : ℕ) → i < 4 → F.pre places i }
+    requires s_len { length s.old ≡ 256 }
+    ensures { (p : ℕ → ℕ) → p 0 % 4 ≡ 0 → ((i n : ℕ) → F.post places i n → n ≡ p i) → (e : ℕ) → e < 16 → word s.new e ≡ word s.old (e % 4 + 4 * ((e / 4 + p (e % 4)) % 4)) }
+{
+    for i in 1..4 {
+        turn_row(s, i, places(i));
+    }
+}
+
+// Row i is turned by i places to the left.
 pub(crate) fn shift_rows(s: &mut [u8])
     requires { length s.old ≡ 256 }
     ensures { s.new ≡ big_shift_rows s.old }
 {
-    for i in 1..4 {
-        turn_row(s, i, i);
-    }
+    turn_rows(s, |i| i);
 }
 
-// Row i is turned by i places to the right, which is 4 - i to the left; row 0 stays.
+// Row i is turned by i places to the right, which is 4 - i to the left.
 pub(crate) fn shift_rows_back(s: &mut [u8])
     requires { length s.old ≡ 256 }
     ensures { s.new ≡ big_shift_rows_back s.old }
 {
-    for i in 1..4 {
-        turn_row(s, i, 4 - i);
-    }
+    turn_rows(s, |i| 4 - i);
 }

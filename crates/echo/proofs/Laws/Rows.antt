@@ -171,10 +171,6 @@ module _ (places : ℕ → ℕ) where
           ∙ R.rest (i + 4 * ((e / 4 + places i) % 4)) (omega arith) (omega arith)
           ∙ ap (λ (k : ℕ). word l (k + 4 * ((e / 4 + places k) % 4))) (let row : i ≡ e % 4 = omega arith in row)
 
-  -- t is known by where its words come from
-  all_rows : (l s t : List ℕ) (i : ℕ) → ((e : ℕ) → e < 16 → word t e ≡ word l (from e)) → length t ≡ 256 → Rows l i s → 4 ≤ i → length s ≡ 256 → s ≡ t
-  all_rows l s t i comes lt R all ls = same_words s t ls lt (λ e h. R.done e h (omega arith) ∙ sym (comes e h))
-
 -- to the left, the row i by i places and, on the way back, by 4 - i
 abbrev pub forth : ℕ → ℕ
 forth i = i
@@ -182,9 +178,13 @@ forth i = i
 abbrev pub back : ℕ → ℕ
 back i = 4 - i
 
-module _ (l s : List ℕ) (i : ℕ) where
-  pub rows_forth : Rows forth l i s → 4 ≤ i → length s ≡ 256 → s ≡ big_shift_rows l
-  rows_forth = all_rows forth l s _ i (λ e h. shifted_word l e h ∙ ap (word l) (agree (λ e. 5 * e % 16) (from forth) 16 tt e h)) (length-forth l)
+module _ (l s : List ℕ) (long : length s ≡ 256) where
+  pub rows_forth : ((e : ℕ) → e < 16 → word s e ≡ word l (from forth e)) → s ≡ big_shift_rows l
+  rows_forth comes =
+      same_words s _ long (length-forth l)
+      (λ e h. comes e h ∙ sym (shifted_word l e h ∙ ap (word l) (agree (λ e. 5 * e % 16) (from forth) 16 tt e h)))
 
-  pub rows_back : Rows back l i s → 4 ≤ i → length s ≡ 256 → s ≡ big_shift_rows_back l
-  rows_back = all_rows back l s _ i (λ e h. shifted_back_word l e h ∙ ap (word l) (agree (λ e. 13 * e % 16) (from back) 16 tt e h)) (length_back l)
+  pub rows_back : ((e : ℕ) → e < 16 → word s e ≡ word l (from back e)) → s ≡ big_shift_rows_back l
+  rows_back comes =
+      same_words s _ long (length_back l)
+      (λ e h. comes e h ∙ sym (shifted_back_word l e h ∙ ap (word l) (agree (λ e. 13 * e % 16) (from back) 16 tt e h)))

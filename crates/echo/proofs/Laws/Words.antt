@@ -2,10 +2,9 @@
 use Rattle.std.proofs.Common.{◌≡◌, ℕ, ◌+◌, ◌*◌, ◌/◌, ◌%◌, ◌<◌, ◌≤◌, List, length, get_or, sym, ap, ◌∙◌, subst, ap₂, zero-add, arith}
 use Rattle.aes_round.specs.Array.{array}
 use Rattle.aes_round.specs.Bytes.{tab}
-use Rattle.aes_round.specs.Rounds.{aes_round, aes_round_back}
 use Rattle.aes_round.proofs.Promises.{Filled, entry_is, entry_shift, entry_shift_back, fill_all, fill_none, is_tab, tab_array, tab_ext}
 use Rattle.echo.specs.Placed.{Placed}
-use Rattle.echo.specs.Square.{big_shift_rows, big_shift_rows_back, big_sub_words, big_sub_words_back, word}
+use Rattle.echo.specs.Square.{big_shift_rows, big_shift_rows_back, word}
 use Rattle.echo.proofs.Laws.Placed.{fill_part}
 
 -- a word by the bytes that the code reads
@@ -64,43 +63,27 @@ module _ (f : ℕ → List ℕ) (l : List ℕ) where
       remainder : (j b : ℕ) → b < 16 → (16 * j + b) % 16 ≡ b
       remainder j b h = omega arith
 
--- ---- BIG.SubWords and its way back: word after word goes through f, with its subkey and the salt
+-- ---- word after word goes through f, each with its number from `first` on
 
-module _ (f : List ℕ → List ℕ → List ℕ → List ℕ) (key : ℕ → List ℕ) (salt l : List ℕ) where
+module _ (f : List ℕ → ℕ → List ℕ) (first : ℕ) (l : List ℕ) where
   -- the first j words are through
   pub Through : ℕ → List ℕ → Type 0
-  Through = Words (λ i. f (word l i) (key i) salt) l
+  Through = Words (λ i. f (word l i) (first + i)) l
 
   pub none_through : length l ≡ 256 → Through 0 l
   unfolding Through
   none_through = no_words _ l
 
-  pub next_through : (j : ℕ) (s w k t r : List ℕ) → Placed s (16 * j) t (length t) r → t ≡ f w k salt → w ≡ tab 16 (λ b. get_or s (16 * j + b) 0) → k ≡ key j
+  pub next_through : (j : ℕ) (s w t r : List ℕ) → Placed s (16 * j) t (length t) r → t ≡ f w (first + j) → w ≡ tab 16 (λ b. get_or s (16 * j + b) 0)
       → length t ≡ 16 → j < 16 → Through j s → Through (j + 1) r
   unfolding Through
-  next_through j s w k t r P e p q lt h T =
+  next_through j s w t r P e p lt h T =
       next_word _ l j s t r T h (subst (λ (n : ℕ). Placed s (16 * j) t n r) lt P)
-      (e ∙ ap₂ (λ (x y : List ℕ). f x y salt) (p ∙ old_word _ l j s T) q)
+      (e ∙ ap (λ (x : List ℕ). f x (first + j)) (p ∙ old_word _ l j s T))
 
-  all_through : (j : ℕ) (s : List ℕ) → Through j s → 16 ≤ j → s ≡ array 16 (λ i b. get_or (f (word l i) (key i) salt) b 0)
+  pub all_through : (j : ℕ) (s : List ℕ) → Through j s → 16 ≤ j → s ≡ array 16 (λ i b. get_or (f (word l i) (first + i)) b 0)
   unfolding Through
   all_through = all_words _ l
-
--- two rounds of the AES and two back, with the subkeys k and salt
-abbrev pub forth : List ℕ → List ℕ → List ℕ → List ℕ
-forth w k salt = aes_round (aes_round w k) salt
-
-abbrev pub back : List ℕ → List ℕ → List ℕ → List ℕ
-back w k salt = aes_round_back (aes_round_back w salt) k
-
-module _ (key : ℕ → List ℕ) (salt l : List ℕ) (j : ℕ) (s : List ℕ) where
-  pub through_forth : Through forth key salt l j s → 16 ≤ j → s ≡ big_sub_words key salt l
-  unfolding big_sub_words
-  through_forth = all_through forth key salt l j s
-
-  pub through_back : Through back key salt l j s → 16 ≤ j → s ≡ big_sub_words_back key salt l
-  unfolding big_sub_words_back
-  through_back = all_through back key salt l j s
 
 -- ---- BIG.ShiftRows and its way back: the word that comes to place i
 

@@ -1,13 +1,7 @@
--- `shift_rows_back` meets its contract: the loop turns row after row. Assumes nothing.
+-- `shift_rows_back` meets its contract: how far each row is turned. Assumes nothing.
 use Rattle.std.proofs.Common.{refl, rules}
-use Rattle.echo.proofs.Laws.Rows.{back, first_row, next_row, rows_back}
+use Rattle.echo.proofs.Laws.Rows.{back, rows_back}
 use Rattle.echo.proofs.shift_rows.shift_rows_back.Goals as goal
 
-pub loop-i-init : goal.loop-i-init
-loop-i-init c = (search rules, search rules, first_row back refl _)
-
-pub loop-i-preserved : goal.loop-i-preserved
-loop-i-preserved c = (search rules, search rules, search next_row)
-
 pub returns : goal.returns
-returns c = search rows_back
+returns c = rows_back _ _ (search rules) (c.turn_rows.ensures back refl (λ i n k. search rules))

@@ -1,13 +1,11 @@
--- `sub_words_back` meets its contract: the loop rewrites word after word. Assumes nothing.
+-- `sub_words_back` meets its contract: what the step makes of a word. Assumes nothing.
 use Rattle.std.proofs.Common.{rules}
-use Rattle.echo.proofs.Laws.Words.{next_through, none_through, through_back}
+use Rattle.aes_round.specs.Rounds.{aes_round_back}
+use Rattle.echo.specs.Numbers.{halves}
+use Rattle.echo.specs.Square.{big_sub_words_back, wide_keys_from}
 use Rattle.echo.proofs.sub_words.sub_words_back.Goals as goal
 
-pub loop-j-init : goal.loop-j-init
-loop-j-init c = (search rules, search rules, search none_through)
-
-pub loop-j-preserved : goal.loop-j-preserved
-loop-j-preserved c = (search rules, search rules, search (rules, next_through))
-
 pub returns : goal.returns
-returns c = search through_back
+unfolding big_sub_words_back
+returns c =
+    c.each_word.ensures (λ w n. aes_round_back (aes_round_back w c.args.salt) (wide_keys_from (halves c.args.counter.low c.args.counter.high) n)) (λ w n t k. search rules)

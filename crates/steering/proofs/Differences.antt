@@ -6,12 +6,12 @@ use Prim.Native.Nat.{ℕ}
 use native.Mathlib.Omega.{arith}
 use lib.Dec.{eqb, ltb}
 use lib.ListN.{get_or}
+use Rattle.steering.specs.Answers.{Fingerprinted}
 use Rattle.steering.specs.Fingerprint.{fingerprint_answer, message, place_of, refusal_of}
 use Rattle.steering.specs.Numbers.{big_endian, bytes_of, either}
 use Rattle.steering.specs.Parsing.{Parsed, accepted, parse, parse_from, refused}
 use Rattle.steering.specs.Reading.{read_at, record_at}
 use Rattle.steering.specs.Records.{body_length, body_of, record_of}
-use Rattle.steering.specs.declared.fingerprinting.Fingerprinted.{Fingerprinted}
 use Rattle.steering.specs.declared.records.Record.{Record}
 
 abbrev bodies : List Record → List ℕ

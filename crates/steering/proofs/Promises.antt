@@ -4,12 +4,12 @@ use mathlib.Core.Path.{◌≡◌}
 use mathlib.Core.List.{List, ◌∷◌}
 use Prim.Native.Nat.{ℕ, suc, ◌+◌, ◌<◌, ◌≤◌}
 use lib.ListN.{length}
+use Rattle.steering.specs.Answers.{Found}
 use Rattle.steering.specs.Numbers.{AreBytes}
 use Rattle.steering.specs.Parsing.{AllFit, accepted, parse, table_of}
 use Rattle.steering.specs.Reading.{read_at}
 use Rattle.steering.specs.Records.{Fits, body_of, kind_of}
 use Rattle.steering.specs.Writing.{write_answer, write_leaves}
-use Rattle.steering.specs.declared.reading.Reading.TheVariants.{Found}
 use Rattle.steering.specs.declared.records.Record.{Record}
 use Rattle.steering.proofs.Laws.Complete as complete
 use Rattle.steering.proofs.Laws.Reading as reading

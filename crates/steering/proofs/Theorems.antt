@@ -1,5 +1,5 @@
 -- The theorems of this crate that the pages quote, each closed: what it assumes stands in its statement. Assumes nothing.
-use mathlib.Core.Path.{◌≡◌, refl, sym}
+use mathlib.Core.Path.{◌≡◌, sym}
 use mathlib.Core.Bool.{not, ◌&&◌}
 use mathlib.Core.Logic.{◌⊎◌, ◌↔◌}
 use mathlib.Core.List.{List, [], ◌∷◌, ◌++◌}
@@ -11,6 +11,7 @@ use Rattle.echo.specs.declared.mode.Mode.TheVariants.{DoublePipe}
 use Rattle.echo.specs.Digest.{digest_of}
 use Rattle.echo.specs.Refusals.{Lowest, ◌when◌, no_salt}
 use Rattle.echo.specs.Session.{digest_leaves, digest_refusal}
+use Rattle.steering.specs.Answers.{Found}
 use Rattle.steering.specs.Fingerprint.{fingerprint_answer, fingerprint_leaves, message, refusal_of}
 use Rattle.steering.specs.Numbers.{AreBytes}
 use Rattle.steering.specs.Parsing.{AllFit, accepted, parse, refused, table_of}
@@ -18,7 +19,6 @@ use Rattle.steering.specs.Reading.{number_of, read_at}
 use Rattle.steering.specs.Records.{Fits, body_length, body_of, kind_of, record_of}
 use Rattle.steering.specs.Writing.{address_too_high, put_at, write_answer, write_body_answer, write_body_leaves, write_body_refusal}
 use Rattle.steering.specs.Writing.{write_leaves, write_refusal}
-use Rattle.steering.specs.declared.reading.Reading.TheVariants.{Found}
 use Rattle.steering.specs.declared.records.Radio.TheVariants.{High, Low}
 use Rattle.steering.specs.declared.records.Record.{Record}
 use Rattle.steering.specs.declared.records.Record.TheVariants.{Floor, Node}
@@ -211,4 +211,4 @@ the_digest_layer_takes_each_message = fingerprints.takes
 pub a_refused_fingerprint_leaves_the_room : (k : ℕ) (salt t room : List ℕ)
     → (fingerprint_answer (length salt) (length room) (parse t)).refusal ≡ suc k
     → fingerprint_leaves salt t room ≡ room
-a_refused_fingerprint_leaves_the_room k salt t room e = sym (fingerprints.left_alone salt t room _ refl (λ z. omega (arith, e, z)))
+a_refused_fingerprint_leaves_the_room k salt t room e = sym (fingerprints.left_alone salt t room (λ z. omega (arith, e, z)))

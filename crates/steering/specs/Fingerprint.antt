@@ -2,9 +2,9 @@
 use Rattle.std.specs.Prelude.{List, ◌++◌, ℕ, eqb, ltb, drop, length}
 use Rattle.echo.specs.declared.mode.Mode.TheVariants.{DoublePipe}
 use Rattle.echo.specs.Digest.{digest_of}
+use Rattle.steering.specs.Answers.{Fingerprinted}
 use Rattle.steering.specs.Numbers.{either}
 use Rattle.steering.specs.Parsing.{Parsed, accepted, parse, refused}
-use Rattle.steering.specs.declared.fingerprinting.Fingerprinted.{Fingerprinted}
 
 abbrev pub refusal_of : Parsed → ℕ
 refusal_of (accepted rs) = 0

@@ -1,10 +1,8 @@
 -- A whole table: its records in order, or the refusal of the record nearest the front. Assumes nothing.
 use Rattle.std.specs.Prelude.{List, [], ◌∷◌, ◌++◌, ℕ, zero, suc, length}
+use Rattle.steering.specs.Answers.{Counted, End, Found, Reading, Refused}
 use Rattle.steering.specs.Reading.{read_at}
 use Rattle.steering.specs.Records.{Fits, body_of, kind_of}
-use Rattle.steering.specs.declared.counting.Counted.{Counted}
-use Rattle.steering.specs.declared.reading.Reading.{Reading}
-use Rattle.steering.specs.declared.reading.Reading.TheVariants.{End, Found, Refused}
 use Rattle.steering.specs.declared.records.Record.{Record}
 
 -- records, or a refusal number and a place

@@ -1,9 +1,8 @@
 -- What stands at a place of a table. Assumes nothing.
 use Rattle.std.specs.Prelude.{List, ℕ, ◌+◌, ◌-◌, eqb, ltb, drop, get_or, length, take}
+use Rattle.steering.specs.Answers.{End, Found, Reading, Refused}
 use Rattle.steering.specs.Numbers.{either}
 use Rattle.steering.specs.Records.{body_length, record_of}
-use Rattle.steering.specs.declared.reading.Reading.{Reading}
-use Rattle.steering.specs.declared.reading.Reading.TheVariants.{End, Found, Refused}
 
 -- the record whose kind byte stands at a place: 9 where no record has that kind, 10 where the table ends within the body
 unfoldable pub record_at : List ℕ → ℕ → ℕ → Reading

@@ -1,10 +1,10 @@
 -- A record put at a place of a lent room. Assumes nothing.
 use Rattle.std.specs.Prelude.{Bool, not, false, List, [], ◌∷◌, ◌++◌, ℕ, ◌+◌, ◌^◌, eqb, leb, ltb, drop, length, take}
 use Rattle.echo.specs.Refusals.{◌when◌, first_of, unless}
+use Rattle.steering.specs.Answers.{Written}
 use Rattle.steering.specs.Records.{body_length, body_of, kind_of}
 use Rattle.steering.specs.declared.records.Record.{Record}
 use Rattle.steering.specs.declared.records.Record.TheVariants.{Floor, Hold, Node, Note}
-use Rattle.steering.specs.declared.writing.Written.{Written}
 
 -- the room with these bytes from a place on; what stands before and behind them stays
 abbrev pub put_at : List ℕ → ℕ → List ℕ → List ℕ

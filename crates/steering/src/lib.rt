@@ -2,13 +2,16 @@
 // Steering tables: reading and writing a record at a place, counting a table's records, and a table's fingerprint.
 mod counting;
 mod fingerprinting;
+mod kinds;
 mod numbers;
 mod reading;
 mod records;
+mod refusals;
 mod writing;
 
-pub use counting::{Counted, count};
-pub use fingerprinting::{Fingerprinted, fingerprint};
-pub use reading::{Reading, read_at};
+pub use counting::count;
+pub use fingerprinting::fingerprint;
+pub use reading::read_at;
 pub use records::{HoldTime, JoinFloor, NodeAddress, Note, Radio, Record};
-pub use writing::{Written, kind_of, write_at, write_body_at};
+pub use refusals::{Refusal, WriteRefusal};
+pub use writing::{kind_of, write_at, write_body_at};

@@ -1,57 +1,35 @@
 // Reading a table at a place.
 ghost use Rattle.std.specs.Prelude.{◌≡◌};
+ghost use Rattle.steering.specs.Answers.{reading_of};
 ghost use Rattle.steering.specs.Reading.{read_at};
 
-use super::records::{Record, body_length, record_of};
+use super::kinds::Kind;
+use super::records::{Record, record_of};
+use super::refusals::Refusal;
 
-// What stands at a place of a table.
-#[derive(Clone, Copy)]
-pub enum Reading {
-    // A record, and the place behind it.
-    Found { record: Record, next: usize },
-    // The end of the table.
-    End,
-    // A refusal number, and the place of the record's kind byte where the number is 9 or 10, else 0.
-    Refused { number: u8, place: usize },
-}
-
-fn refused(number: u8, place: usize) -> Reading
-    ensures { result ≡ Reading.Refused number place }
-{
-    Reading::Refused {
-        number: number,
-        place: place,
-    }
-}
-
-// The record at a place, or the end; or a refusal by 6 (the place is past the end), 8 (the table is over 4,096 bytes), 9 (unknown kind) or
-// 10 (cut short).
-pub fn read_at(table: &[u8], place: usize) -> Reading
-    ensures { result ≡ read_at table.now place }
+// The record at a place and the place behind it, or none at the end; or a refusal by 6 (the place is past the end), 8 (the table is over 4,096 bytes),
+// 9 (unknown kind) or 10 (cut short).
+pub fn read_at(table: &[u8], place: usize) -> Result<Option<(Record, usize)>, Refusal>
+    ensures { reading_of result ≡ read_at table.now place }
 {
     let n = table.len();
     if n < place {
-        return refused(6, 0);
+        return Err(Refusal::PastEnd);
     }
     if 4096 < n {
-        return refused(8, 0);
+        return Err(Refusal::LongTable);
     }
     if place == n {
-        return Reading::End;
+        return Ok(None);
     }
-    let kind = table[place];
-    let length = body_length(kind);
-    if length == 0 {
-        return refused(9, place);
-    }
+    let Ok(kind) = Kind::try_from(table[place]) else {
+        return Err(Refusal::UnknownKind { place });
+    };
     let at = place + 1;
+    let length = kind.body_length();
     if n - at < length {
-        return refused(10, place);
+        return Err(Refusal::CutShort { place });
     }
     let next = at + length;
-    let record = record_of(kind, &table[at..next]);
-    Reading::Found {
-        record: record,
-        next: next,
-    }
+    Ok(Some((record_of(kind, &table[at..next]), next)))
 }

@@ -1,34 +1,36 @@
 // The records of a steering table.
-ghost use Rattle.std.specs.Prelude.{◌≡◌, ◌<◌, length};
-ghost use Rattle.steering.specs.Records.{body_length, record_of};
+ghost use Rattle.std.specs.Prelude.{◌≡◌, length};
+ghost use Rattle.steering.specs.Kinds.{kind_byte};
+ghost use Rattle.steering.specs.Records.{body_length, kind_of, record_of};
 
-use super::numbers::{eight, four, six, two};
+use super::kinds::Kind;
+use super::numbers::number;
 
 // 2.4 GHz and 5 GHz.
-#[derive(Clone, Copy)]
+#[derive(Clone, Copy, PartialEq, Eq, Debug)]
 pub enum Radio {
     Low,
     High,
 }
 
 // Six bytes.
-#[derive(Clone, Copy)]
+#[derive(Clone, Copy, PartialEq, Eq, Debug)]
 pub struct NodeAddress {
     pub address: u64,
 }
 
-#[derive(Clone, Copy)]
+#[derive(Clone, Copy, PartialEq, Eq, Debug)]
 pub struct JoinFloor {
     pub radio: Radio,
     pub level: u16,
 }
 
-#[derive(Clone, Copy)]
+#[derive(Clone, Copy, PartialEq, Eq, Debug)]
 pub struct HoldTime {
     pub time: u32,
 }
 
-#[derive(Clone, Copy)]
+#[derive(Clone, Copy, PartialEq, Eq, Debug)]
 pub struct Note {
     pub first: u64,
     pub second: u64,
@@ -36,7 +38,7 @@ pub struct Note {
     pub fourth: u64,
 }
 
-#[derive(Clone, Copy)]
+#[derive(Clone, Copy, PartialEq, Eq, Debug)]
 pub enum Record {
     Node(NodeAddress),
     Floor(JoinFloor),
@@ -44,60 +46,47 @@ pub enum Record {
     Note(Note),
 }
 
-// How many bytes follow a kind byte; 0 where no record has that kind.
-pub(crate) fn body_length(kind: u8) -> usize
-    ensures { result ≡ body_length kind }
-{
-    if kind == 1 {
-        return 6;
+impl Record {
+    pub(crate) fn kind(self) -> Kind
+        ensures { kind_byte result ≡ kind_of self }
+    {
+        match self {
+            Record::Node(_) => Kind::Node,
+            Record::Floor(floor) => match floor.radio {
+                Radio::Low => Kind::LowFloor,
+                Radio::High => Kind::HighFloor,
+            },
+            Record::Hold(_) => Kind::Hold,
+            Record::Note(_) => Kind::Note,
+        }
     }
-    if kind == 2 {
-        return 2;
-    }
-    if kind == 3 {
-        return 2;
-    }
-    if kind == 4 {
-        return 4;
-    }
-    if kind == 5 {
-        return 32;
-    }
-    0
 }
 
 // The record of a kind whose body is given whole.
-pub(crate) fn record_of(kind: u8, body: &[u8]) -> Record
-    requires kind_nonzero { 0 < body_length kind }
-    requires body_len { length body.now ≡ body_length kind }
-    ensures { result ≡ record_of kind body.now }
+pub(crate) fn record_of(kind: Kind, body: &[u8]) -> Record
+    requires { length body.now ≡ body_length (kind_byte kind) }
+    ensures { result ≡ record_of (kind_byte kind) body.now }
 {
-    if kind == 1 {
-        return Record::Node(NodeAddress {
-            address: six(body, 0),
-        });
-    }
-    if kind == 2 {
-        return Record::Floor(JoinFloor {
+    match kind {
+        Kind::Node => Record::Node(NodeAddress {
+            address: number(body),
+        }),
+        Kind::LowFloor => Record::Floor(JoinFloor {
             radio: Radio::Low,
-            level: two(body, 0),
-        });
-    }
-    if kind == 3 {
-        return Record::Floor(JoinFloor {
+            level: number(body) as u16,
+        }),
+        Kind::HighFloor => Record::Floor(JoinFloor {
             radio: Radio::High,
-            level: two(body, 0),
-        });
+            level: number(body) as u16,
+        }),
+        Kind::Hold => Record::Hold(HoldTime {
+            time: number(body) as u32,
+        }),
+        Kind::Note => Record::Note(Note {
+            first: number(&body[0..8]),
+            second: number(&body[8..16]),
+            third: number(&body[16..24]),
+            fourth: number(&body[24..32]),
+        }),
     }
-    if kind == 4 {
-        return Record::Hold(HoldTime {
-            time: four(body, 0),
-        });
-    }
-    Record::Note(Note {
-        first: eight(body, 0),
-        second: eight(body, 8),
-        third: eight(body, 16),
-        fourth: eight(body, 24),
-    })
 }

@@ -8,12 +8,11 @@ use lib.Arith.{mod-mul}
 use lib.Dec.{lit<}
 use lib.ListN.{drop, get_or, length, length-append, take}
 use lib.Seq.{drop_at, drop-drop, get_or-drop, take_all, take_at}
+use Rattle.steering.specs.Answers.{Found, Reading}
 use Rattle.steering.specs.Numbers.{AreBytes, big_endian, bytes_of, number_at}
 use Rattle.steering.specs.Parsing.{AllFit, Parsed, accepted, go_on, in_front, parse, parse_from, refused, table_of}
 use Rattle.steering.specs.Reading.{read_at}
 use Rattle.steering.specs.Records.{Fits, body_length, body_of, floor_kind, kind_of, record_of}
-use Rattle.steering.specs.declared.reading.Reading.{Reading}
-use Rattle.steering.specs.declared.reading.Reading.TheVariants.{Found}
 use Rattle.steering.specs.declared.records.Radio.{Radio}
 use Rattle.steering.specs.declared.records.Radio.TheVariants.{High, Low}
 use Rattle.steering.specs.declared.records.Record.{Record}

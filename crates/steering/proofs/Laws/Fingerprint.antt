@@ -13,11 +13,10 @@ use Rattle.echo.specs.Digest.{digest_of}
 use Rattle.echo.specs.Session.{digest_leaves, digest_refusal}
 use Rattle.echo.proofs.Promises.{admitted_256}
 use Rattle.echo.proofs.Theorems.{at_once_is_the_digest}
+use Rattle.steering.specs.Answers.{Counted, Fingerprinted}
 use Rattle.steering.specs.Fingerprint.{fingerprint_answer, fingerprint_leaves, message, place_of, refusal_of}
 use Rattle.steering.specs.Numbers.{AreBytes, either}
 use Rattle.steering.specs.Parsing.{Parsed, accepted, count_of, parse, refused, table_of}
-use Rattle.steering.specs.declared.counting.Counted.{Counted}
-use Rattle.steering.specs.declared.fingerprinting.Fingerprinted.{Fingerprinted}
 use Rattle.steering.specs.declared.records.Record.{Record}
 use Rattle.steering.proofs.Laws.Outcomes.{accepted_exactly, too_long_8}
 
@@ -66,33 +65,57 @@ takes salt t room z =
 
 -- ---- the answers
 
+abbrev refusal : Fingerprinted → ℕ
+refusal f = f.refusal
+
 count_fields : (q : Parsed) → ((count_of q).refusal ≡ refusal_of q) × ((count_of q).place ≡ place_of q)
 count_fields (accepted rs) = (refl, refl)
 count_fields (refused number place) = (refl, refl)
 
-module _ (salt room : ℕ) (q : Parsed) where
-  pub print_2 : (salt ≡ 16 → ⊥) → record { refusal = 2; place = 0 } ≡ fingerprint_answer salt room q
-  unfolding fingerprint_answer
-  print_2 l = rw (ne_eqb salt 16 l)
+-- what a fingerprint that is refused leaves
+pub left_alone : (salt t room : List ℕ) → ((fingerprint_answer (length salt) (length room) (parse t)).refusal ≡ 0 → ⊥) → room ≡ fingerprint_leaves salt t room
+unfolding fingerprint_leaves
+left_alone salt t room n = rw (ne_eqb (fingerprint_answer (length salt) (length room) (parse t)).refusal 0 n)
 
-  module _ (l : salt ≡ 16) where
-    pub print_5 : room < 32 → record { refusal = 5; place = 0 } ≡ fingerprint_answer salt room q
+-- by the tests that lead to each answer
+module _ (salt t room : List ℕ) where
+  module _ (l : length salt ≡ 16 → ⊥) where
+    pub print_2 : record { refusal = 2; place = 0 } ≡ fingerprint_answer (length salt) (length room) (parse t)
     unfolding fingerprint_answer
-    print_5 h = rw (eq-eqb salt 16 l, lt-ltb room 32 h)
+    print_2 = rw (ne_eqb (length salt) 16 l)
 
-    pub print_table : 32 ≤ room → (k : Counted) → k ≡ count_of q → record { refusal = k.refusal; place = k.place } ≡ fingerprint_answer salt room q
-    unfolding fingerprint_answer
-    print_table h k e = rw (eq-eqb salt 16 l, le-ltb room 32 h, e, (count_fields q).0, (count_fields q).1)
+    pub left_2 : room ≡ fingerprint_leaves salt t room
+    left_2 = left_alone salt t room (λ z. omega (arith, z, ap refusal (sym print_2)))
 
--- ---- what a fingerprint leaves, by the answer a that the code has
+  module _ (l : length salt ≡ 16) where
+    module _ (h : length room < 32) where
+      pub print_5 : record { refusal = 5; place = 0 } ≡ fingerprint_answer (length salt) (length room) (parse t)
+      unfolding fingerprint_answer
+      print_5 = rw (eq-eqb (length salt) 16 l, lt-ltb (length room) 32 h)
 
-module _ (salt t room : List ℕ) (a : Fingerprinted) (e : a ≡ fingerprint_answer (length salt) (length room) (parse t)) where
-  pub left_alone : (a.refusal ≡ 0 → ⊥) → room ≡ fingerprint_leaves salt t room
-  unfolding fingerprint_leaves
-  left_alone n = rw (← e, ne_eqb a.refusal 0 n)
+      pub left_5 : room ≡ fingerprint_leaves salt t room
+      left_5 = left_alone salt t room (λ z. omega (arith, z, ap refusal (sym print_5)))
 
-  pub left_digest : a.refusal ≡ 0 → (u : List ℕ) → u ≡ digest_leaves DoublePipe 256 salt t room → u ≡ fingerprint_leaves salt t room
-  left_digest z u d = d ∙ (takes salt t room (sym (ap (λ (f : Fingerprinted). f.refusal) e) ∙ z)).1
+    module _ (h : 32 ≤ length room) where
+      -- the table is counted
+      module _ (k : Counted) (e : k ≡ count_of (parse t)) where
+        print_table : record { refusal = k.refusal; place = k.place } ≡ fingerprint_answer (length salt) (length room) (parse t)
+        unfolding fingerprint_answer
+        print_table = rw (eq-eqb (length salt) 16 l, le-ltb (length room) 32 h, e, (count_fields (parse t)).0, (count_fields (parse t)).1)
+
+      module _ (number place : ℕ) (e : record { refusal = number; place = place; count = 0 } ≡ count_of (parse t)) where
+        pub print_refused : record { refusal = number; place = place } ≡ fingerprint_answer (length salt) (length room) (parse t)
+        print_refused = print_table _ e
+
+        pub left_refused : (number ≡ 0 → ⊥) → room ≡ fingerprint_leaves salt t room
+        left_refused n = left_alone salt t room (λ z. n (ap refusal print_refused ∙ z))
+
+      module _ (n : ℕ) (e : record { refusal = 0; place = 0; count = n } ≡ count_of (parse t)) where
+        pub print_accepted : record { refusal = 0; place = 0 } ≡ fingerprint_answer (length salt) (length room) (parse t)
+        print_accepted = print_table _ e
+
+        pub left_digest : (u : List ℕ) → u ≡ digest_leaves DoublePipe 256 salt t room → u ≡ fingerprint_leaves salt t room
+        left_digest u d = d ∙ (takes salt t room (ap refusal (sym print_accepted))).1
 
 pub digested : (salt t room : List ℕ) (rs : List Record) → length salt ≡ 16 → 32 ≤ length room → parse t ≡ accepted rs
     → (fingerprint_answer (length salt) (length room) (parse t) ≡ record { refusal = 0; place = 0 })
@@ -102,5 +125,5 @@ digested salt t room rs l h p = (answer, rw answer)
   where
     answer : fingerprint_answer (length salt) (length room) (parse t) ≡ record { refusal = 0; place = 0 }
     answer =
-        sym (print_table (length salt) (length room) (parse t) l h (count_of (parse t)) refl)
+        sym (print_table salt t room l h (count_of (parse t)) refl)
         ∙ ap (λ (q : Parsed). record { refusal = (count_of q).refusal; place = (count_of q).place }) p

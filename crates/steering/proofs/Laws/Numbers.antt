@@ -1,57 +1,21 @@
 -- Numbers as bytes, the most significant first: reading them in parts, and back. Assumes nothing.
-use mathlib.Core.Path.{◌≡◌, refl, sym, ap, ap₂, ◌∙◌}
+use mathlib.Core.Path.{◌≡◌, refl, sym, ap, ap₂, subst, ◌∙◌}
 use mathlib.Core.List.{List, [], ◌∷◌, ◌++◌}
-use Prim.Native.Nat.{ℕ, zero, suc, ◌+◌, ◌*◌, ◌/◌, ◌%◌, ◌^◌, ◌<◌, ◌≤◌}
-use native.Mathlib.Nat.{add_assoc, add-mul, add-zero, div-eq_of_lt, mod-eq_of_lt, mul-add-div_right, mul-add-mod_self_right, mul_assoc}
-use native.Mathlib.Nat.{add_comm, div-add-mod', div-div-eq-div-mul, mul-le-mul_right, pow-succ', suc-add, suc-mul, zero-add, zero-mul}
-use native.Mathlib.Numerals.{add-one}
+use Prim.Native.Nat.{ℕ, zero, suc, ◌+◌, ◌-◌, ◌*◌, ◌/◌, ◌%◌, ◌^◌, ◌<◌, ◌≤◌}
+use native.Mathlib.Nat.{add-zero, div-eq_of_lt, div-one, mod-eq_of_lt, mul-add-div_right, mul-add-mod_self_right, mul_assoc}
+use native.Mathlib.Nat.{mul-le-mul_right, pow-succ', suc-add, suc-mul, zero-add}
 use native.Mathlib.Omega.{arith}
-use lib.ListN.{drop, get_or, length, length-append, length-drop, take}
+use lib.ListN.{drop, length, length-drop, take}
 use lib.Pow.{pow-add}
-use mir.Syntax.{w8}
-use mir.Val.{Fits}
-use lib.Seq.{drop-cons, drop-drop, get_or-drop, length-take-le, take-add}
+use borrow.Rule.Slice.PartMut.{put_mid}
+use lib.Seq.{drop-drop, get_or-drop, length-take-le, take_all, take-add}
+use Rattle.std.specs.Int.{bytes_high_first, from_be_bytes, to_be_bytes, w64}
 use Rattle.steering.specs.Numbers.{AreBytes, big_endian, bytes_of, number_at}
 
-pub big_append : (a b : List ℕ) → big_endian (a ++ b) ≡ big_endian a * 256 ^ length b + big_endian b
-unfolding big_endian
-big_append [] b = rw (zero-mul, zero-add)
-big_append (x ∷ a) b =
-    rw
-    (big_append a b, length-append a b, pow-add 256 (length a) (length b), add-mul (x * 256 ^ length a) (big_endian a) (256 ^ length b), add_assoc, mul_assoc)
-
 module _ (at : ℕ) (l : List ℕ) where
-  pub two_bytes : at + 2 ≤ length l → get_or l at 0 * 256 + get_or l (at + 1) 0 ≡ number_at 2 at l
-  unfolding big_endian
-  two_bytes h =
-      let a : at < length l = omega arith in
-      let b : suc at < length l = omega arith in
-      rw (add-one at, drop-cons l at 0 a, drop-cons l (suc at) 0 b) (omega arith)
-
   -- two parts that follow each other
   pub parts : (m n : ℕ) → take m (drop at l) ++ take n (drop (at + m) l) ≡ take (m + n) (drop at l)
   parts m n = ap (λ (d : List ℕ). take m (drop at l) ++ take n d) (sym (drop-drop m at l)) ∙ sym (take-add m n (drop at l))
-
--- two bytes make a number below 2^16
-module _ (x : ℕ) (fits : Fits w8 x) where
-  pub byte_fits : x < 2 ^ 16
-  byte_fits = omega (arith, fits.fits)
-
-  pub high_fits : x * 256 < 2 ^ 16
-  high_fits = omega (arith, fits.fits)
-
-  pub both_fit : (y : ℕ) → Fits w8 y → x * 256 + y < 2 ^ 16
-  both_fit y low = omega (arith, fits.fits, low.fits)
-
--- a number is read in two parts, of m bytes and of n
-pub joined : (m n at : ℕ) (l : List ℕ) (high low : ℕ) → high ≡ number_at m at l → low ≡ number_at n (at + m) l → at + (m + n) ≤ length l
-    → high * 256 ^ n + low ≡ number_at (m + n) at l
-joined m n at l high low p q h =
-    let s : length (take n (drop (at + m) l)) ≡ n = length-take-le n (drop (at + m) l) (omega (arith, length-drop (at + m) l)) in
-    ap₂ (λ (x y : ℕ). x * 256 ^ n + y) p q
-    ∙ sym (ap big_endian (take-add m n (drop at l) ∙ ap (λ (d : List ℕ). take m (drop at l) ++ take n d) (drop-drop m at l))
-    ∙ big_append (take m (drop at l)) (take n (drop (at + m) l))
-    ∙ ap (λ (k : ℕ). number_at m at l * 256 ^ k + number_at n (at + m) l) s)
 
 -- ---- parts of a list of bytes
 
@@ -119,21 +83,49 @@ bytes_back (x ∷ xs) b =
         (mul-add-div_right (power_pos (length xs)) x (big_endian xs) ∙ ap (λ (y : ℕ). x + y) (div-eq_of_lt (below xs (λ j. b (suc j)))) ∙ add-zero x)
         ∙ mod-eq_of_lt (b zero)
 
--- the low bytes of a number are those of its remainder
-pub bytes_rest : (n x : ℕ) → bytes_of n (x % 256 ^ n) ≡ bytes_of n x
-bytes_rest n x =
-    sym (bytes_low n 0 (x / 256 ^ n) (x % 256 ^ n))
-    ∙ ap (λ (j : ℕ). bytes_of n (x / 256 ^ n * 256 ^ j + x % 256 ^ n)) (zero-add n)
-    ∙ ap (bytes_of n) (div-add-mod' x (256 ^ n))
-
--- the bytes of a number, in two parts
-pub bytes_parts : (m n x : ℕ) → bytes_of (m + n) x ≡ bytes_of m (x / 256 ^ n) ++ bytes_of n (x % 256 ^ n)
-unfolding bytes_of
-bytes_parts zero n x = rw (zero-add n) (sym (bytes_rest n x))
-bytes_parts (suc m) n x =
-    rw (suc-add m n, bytes_parts m n x, div-div-eq-div-mul x (256 ^ n) (256 ^ m), ← pow-add 256 n m, add_comm n m)
-
 pub bytes_at : (n at : ℕ) (l : List ℕ) → at + n ≤ length l → AreBytes l → bytes_of n (number_at n at l) ≡ take n (drop at l)
 bytes_at n at l h b =
     let s : length (take n (drop at l)) ≡ n = length-take-le n (drop at l) (omega (arith, length-drop at l)) in
     ap (λ (k : ℕ). bytes_of k (number_at n at l)) (sym s) ∙ bytes_back (take n (drop at l)) (bytes_take n (drop at l) (bytes_drop at l b))
+
+-- ---- as the code reads and writes them, eight bytes at a time
+
+-- eight bytes, the given ones behind zeros
+pub read_last : (bytes last : List ℕ) (x : ℕ) → last ≡ bytes → length bytes ≤ 8
+    → x ≡ from_be_bytes w64 (put_mid (8 - length bytes) (8 - (8 - length bytes)) (0 ∷ 0 ∷ 0 ∷ 0 ∷ 0 ∷ 0 ∷ 0 ∷ 0 ∷ []) last) → x ≡ big_endian bytes
+unfolding big_endian
+read_last bytes last x e few f = by bytes few (subst (λ (l : List ℕ). x ≡ from_be_bytes w64 (behind l (8 - length bytes))) e f)
+  where
+    behind : List ℕ → ℕ → List ℕ
+    behind l k = put_mid k (8 - k) (0 ∷ 0 ∷ 0 ∷ 0 ∷ 0 ∷ 0 ∷ 0 ∷ 0 ∷ []) l
+
+    by : (l : List ℕ) → length l ≤ 8 → x ≡ from_be_bytes w64 (behind l (8 - length l)) → x ≡ big_endian l
+    by [] n g = omega (arith, g)
+    by (a ∷ []) n g = omega (arith, g)
+    by (a ∷ b ∷ []) n g = omega (arith, g)
+    by (a ∷ b ∷ c ∷ []) n g = omega (arith, g)
+    by (a ∷ b ∷ c ∷ d ∷ []) n g = omega (arith, g)
+    by (a ∷ b ∷ c ∷ d ∷ h ∷ []) n g = omega (arith, g)
+    by (a ∷ b ∷ c ∷ d ∷ h ∷ i ∷ []) n g = omega (arith, g)
+    by (a ∷ b ∷ c ∷ d ∷ h ∷ i ∷ j ∷ []) n g = omega (arith, g)
+    by (a ∷ b ∷ c ∷ d ∷ h ∷ i ∷ j ∷ k ∷ []) n g = omega (arith, g)
+    by (a ∷ b ∷ c ∷ d ∷ h ∷ i ∷ j ∷ k ∷ m ∷ l) n g = absurd (omega (arith, n))
+
+same_bytes : (n x : ℕ) → bytes_high_first n x ≡ bytes_of n x
+unfolding bytes_of
+same_bytes zero x = refl
+same_bytes (suc zero) x = ap (λ (y : ℕ). y % 256 ∷ []) (sym (div-one x))
+same_bytes (suc (suc n)) x = ap (λ (l : List ℕ). x / 256 ^ suc n % 256 ∷ l) (same_bytes (suc n) x)
+
+last_bytes : (k n x : ℕ) → drop k (bytes_of (k + n) x) ≡ bytes_of n x
+unfolding bytes_of
+last_bytes zero n x = ap (λ (m : ℕ). bytes_of m x) (zero-add n)
+last_bytes (suc k) n x = ap (λ (m : ℕ). drop (suc k) (bytes_of m x)) (suc-add k n) ∙ last_bytes k n x
+
+-- the last n of the eight bytes of a number
+pub written_last : (n x : ℕ) → n ≤ 8 → take (8 - (8 - n)) (drop (8 - n) (to_be_bytes w64 x)) ≡ bytes_of n x
+written_last n x few =
+    let sum : 8 ≡ 8 - n + n = omega (arith, few) in
+    let all : drop (8 - n) (to_be_bytes w64 x) ≡ bytes_of n x =
+    ap (drop (8 - n)) (same_bytes 8 x ∙ ap (λ (m : ℕ). bytes_of m x) sum) ∙ last_bytes (8 - n) n x in
+    ap (take (8 - (8 - n))) all ∙ take_all (8 - (8 - n)) (bytes_of n x) (omega (arith, few, length_bytes n x))

@@ -11,12 +11,11 @@ use borrow.Author.Tests.{ltb-false, ltb-true}
 use lib.Dec.{eqb, lit<, ltb}
 use lib.ListN.{drop, get_or, length, length-append, length-drop, length-take, take}
 use lib.Seq.{drop-cons, drop-length, get_or-append-add}
+use Rattle.steering.specs.Answers.{End, Found, Reading, Refused}
 use Rattle.steering.specs.Numbers.{AreBytes, either, number_at}
 use Rattle.steering.specs.Parsing.{AllFit, Parsed, accepted, go_on, in_front, parse, parse_from, refused, table_of}
 use Rattle.steering.specs.Reading.{read_at}
 use Rattle.steering.specs.Records.{Fits, body_length, body_of, kind_of, record_of}
-use Rattle.steering.specs.declared.reading.Reading.{Reading}
-use Rattle.steering.specs.declared.reading.Reading.TheVariants.{End, Found, Refused}
 use Rattle.steering.specs.declared.records.Record.{Record}
 use Rattle.steering.proofs.Laws.Complete.{all_refused, all_in_front, complete, parse_through}
 use Rattle.steering.proofs.Laws.Numbers.{below, bytes_drop, bytes_take}

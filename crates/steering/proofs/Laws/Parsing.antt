@@ -5,11 +5,9 @@ use Prim.Native.Nat.{ℕ, suc, ◌+◌, ◌-◌, ◌≤◌}
 use native.Mathlib.Nat.{add-zero, zero-add}
 use native.Mathlib.Omega.{arith}
 use lib.ListN.{length}
+use Rattle.steering.specs.Answers.{Counted, End, Found, Reading, Refused}
 use Rattle.steering.specs.Parsing.{Parsed, accepted, count_of, go_on, in_front, parse, parse_from, refused}
 use Rattle.steering.specs.Reading.{read_at}
-use Rattle.steering.specs.declared.counting.Counted.{Counted}
-use Rattle.steering.specs.declared.reading.Reading.{Reading}
-use Rattle.steering.specs.declared.reading.Reading.TheVariants.{End, Found, Refused}
 use Rattle.steering.specs.declared.records.Record.{Record}
 use Rattle.steering.proofs.Laws.Reading.{found}
 
@@ -42,31 +40,27 @@ count_start t =
     record { within = omega arith; few = omega arith; leads = count_none (parse t) ∙ ap (λ (n : ℕ). count_on 0 (parse_from n t 0)) e }
 
 -- a turn, by what was read at the place
-module _ (t : List ℕ) (at k : ℕ) (C : Counting t at k) (x : Reading) (e : x ≡ read_at t at) where
-  step : count_of (parse t) ≡ count_on k (go_on x (parse_from (length t - k) t))
-  step =
+module _ (t : List ℕ) (at k : ℕ) (C : Counting t at k) where
+  step : (x : Reading) → x ≡ read_at t at → count_of (parse t) ≡ count_on k (go_on x (parse_from (length t - k) t))
+  step x e =
       let left : suc (length t) - k ≡ suc (length t - k) = omega arith in
       C.leads ∙ ap (λ (n : ℕ). count_on k (parse_from n t at)) left ∙ ap (count_on k) (parse_step t at (length t - k) x e)
 
-  pub count_next : (r : Record) (next : ℕ) → x ≡ Found r next → Counting t next (k + 1)
-  count_next r next f =
-      let H = found t at r next (sym f ∙ e) in
+  pub count_next : (r : Record) (next : ℕ) → Found r next ≡ read_at t at → Counting t next (k + 1)
+  count_next r next e =
+      let H = found t at r next e in
       let g : length t - k ≡ suc (length t) - (k + 1) = omega arith in
       record {
         within = omega arith;
         few = omega arith;
         leads =
-            step
-            ∙ ap (λ (y : Reading). count_on k (go_on y (parse_from (length t - k) t))) f
+            step (Found r next) e
             ∙ count_more k r (parse_from (length t - k) t next)
             ∙ ap (λ (n : ℕ). count_on (k + 1) (parse_from n t next)) g;
       }
 
-  pub count_end : x ≡ End → record { refusal = 0; place = 0; count = k } ≡ count_of (parse t)
-  count_end f =
-      sym (step
-      ∙ ap (λ (y : Reading). count_on k (go_on y (parse_from (length t - k) t))) f
-      ∙ ap (λ (n : ℕ). record { refusal = 0; place = 0; count = n }) (add-zero k))
+  pub count_end : End ≡ read_at t at → record { refusal = 0; place = 0; count = k } ≡ count_of (parse t)
+  count_end e = sym (step End e ∙ ap (λ (n : ℕ). record { refusal = 0; place = 0; count = n }) (add-zero k))
 
-  pub count_stop : (number place : ℕ) → x ≡ Refused number place → record { refusal = number; place = place; count = 0 } ≡ count_of (parse t)
-  count_stop number place f = sym (step ∙ ap (λ (y : Reading). count_on k (go_on y (parse_from (length t - k) t))) f)
+  pub count_stop : (number place : ℕ) → Refused number place ≡ read_at t at → record { refusal = number; place = place; count = 0 } ≡ count_of (parse t)
+  count_stop number place e = sym (step (Refused number place) e)

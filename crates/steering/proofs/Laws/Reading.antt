@@ -1,5 +1,5 @@
 -- Each case of reading at a place, from the tests that lead to it, and what a reading says of the table. Assumes nothing.
-use mathlib.Core.Path.{◌≡◌, refl, sym, subst, ◌∙◌}
+use mathlib.Core.Path.{◌≡◌, refl, sym, ap, subst, ◌∙◌}
 use mathlib.Core.Bool.{Bool, true, false}
 use mathlib.Core.Logic.{◌⊎◌, inl, inr, ⊎_elim}
 use mathlib.Core.List.{List}
@@ -8,12 +8,13 @@ use native.Mathlib.Omega.{arith}
 use borrow.Author.Tests.{eq-eqb, eqb-false, eqb-true, le-ltb, lt-ltb, ltb-false, ltb-true, ne_eqb}
 use lib.Dec.{eqb, ltb}
 use lib.ListN.{drop, get_or, length, length-drop, take}
+use Rattle.steering.specs.Answers.{End, Found, Reading, Refused}
+use Rattle.steering.specs.Kinds.{kind_byte}
 use Rattle.steering.specs.Reading.{read_at, record_at}
 use Rattle.steering.specs.Records.{body_length, record_of}
-use Rattle.steering.specs.declared.reading.Reading.{Reading}
-use Rattle.steering.specs.declared.reading.Reading.TheVariants.{End, Found, Refused}
+use Rattle.steering.specs.declared.kinds.Kind.{Kind}
 use Rattle.steering.specs.declared.records.Record.{Record}
-use Rattle.steering.proofs.Laws.Records.{most_body}
+use Rattle.steering.proofs.Laws.Records.{most_body, some_body}
 
 module _ (t : List ℕ) (place : ℕ) where
   pub past_end : length t < place → Refused 6 0 ≡ read_at t place
@@ -49,6 +50,25 @@ module _ (t : List ℕ) (place : ℕ) where
                 → Found r (place + 1 + n) ≡ read_at t place
             unfolding record_at
             whole m r f g s = rw (← at_record, ← e, ne_eqb n 0 z, le-ltb (length t - (place + 1)) n s, f, g)
+
+-- the same of a kind that the code knows by name, and of the length of its bodies
+module _ (t : List ℕ) (place : ℕ) (a : place ≤ length t) (b : length t ≤ 4096) (c : place ≡ length t → ⊥) where
+  pub no_kind : body_length (get_or t place 0) ≡ 0 → Refused 9 place ≡ read_at t place
+  no_kind z = unknown_kind t place a b c 0 (sym z) refl
+
+  module _ (kind : Kind) (is : kind_byte kind ≡ get_or t place 0) (n : ℕ) (e : n ≡ body_length (kind_byte kind)) where
+    same : n ≡ body_length (get_or t place 0)
+    same = e ∙ ap body_length is
+
+    some : n ≡ 0 → ⊥
+    some z = omega (arith, some_body kind, e, z)
+
+    pub cut : length t - (place + 1) < n → Refused 10 place ≡ read_at t place
+    cut = cut_short t place a b c n same some
+
+    pub read : n ≤ length t - (place + 1) → (m : ℕ) → m ≡ n → (r : Record) → r ≡ record_of (kind_byte kind) (take m (drop (place + 1) t))
+        → Found r (place + 1 + n) ≡ read_at t place
+    read s m f r g = whole t place a b c n same some m r (g ∙ ap (λ (k : ℕ). record_of k (take m (drop (place + 1) t))) is) f s
 
 -- what stands where a record was found
 pub record Here (t : List ℕ) (place : ℕ) (r : Record) (next : ℕ) : Type 0 where
@@ -127,5 +147,5 @@ pub found_short : (t : List ℕ) (place : ℕ) (r : Record) (next : ℕ) → Fou
 found_short t place r next e = let H = found t place r next e in omega (arith, H.next_is, most_body (get_or t place 0))
 
 -- behind a record that the code read, less of the table is left
-pub less_left : (t : List ℕ) (at : ℕ) (x : Reading) (r : Record) (next : ℕ) → x ≡ Found r next → x ≡ read_at t at → length t - next < length t - at
-less_left t at x r next f e = let H = found t at r next (sym f ∙ e) in omega arith
+pub less_left : (t : List ℕ) (at : ℕ) (r : Record) (next : ℕ) → Found r next ≡ read_at t at → length t - next < length t - at
+less_left t at r next e = let H = found t at r next e in omega arith

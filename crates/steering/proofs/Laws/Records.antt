@@ -2,21 +2,26 @@
 use mathlib.Core.Path.{◌≡◌, refl, sym, ap, ◌∙◌}
 use mathlib.Core.Bool.{Bool, true, false}
 use mathlib.Core.List.{List, ◌++◌}
-use Prim.Native.Nat.{ℕ, ◌<◌, ◌≤◌}
+use Prim.Native.Nat.{ℕ, ◌^◌, ◌<◌, ◌≤◌}
 use native.Mathlib.Omega.{arith}
 use borrow.Author.Tests.{eqb-false, eqb-true, ne_eqb}
 use lib.Dec.{eqb}
-use lib.ListN.{drop, length, take}
+use lib.ListN.{drop, get_or, length, take}
+use mir.Syntax.{w8, w16, w32}
+use mir.Val.{Fits}
 use lib.Seq.{take_all}
-use Rattle.steering.specs.Numbers.{AreBytes, bytes_of, either, number_at}
+use Rattle.steering.specs.Kinds.{kind_byte}
+use Rattle.steering.specs.Numbers.{AreBytes, big_endian, bytes_of, either, number_at}
 use Rattle.steering.specs.Records.{body_length, body_of, kind_of, record_of}
+use Rattle.steering.specs.declared.kinds.Kind.{Kind}
+use Rattle.steering.specs.declared.kinds.Kind.TheVariants.{HighFloor, Hold as HoldKind, LowFloor, Node as NodeKind, Note as NoteKind}
 use Rattle.steering.specs.declared.records.Radio.TheVariants.{High, Low}
 use Rattle.steering.specs.declared.records.Record.{Record}
 use Rattle.steering.specs.declared.records.Record.TheVariants.{Floor, Hold, Node, Note}
-use Rattle.steering.proofs.Laws.Numbers.{bytes_at, parts}
+use Rattle.steering.proofs.Laws.Numbers.{below, bytes_at, parts}
 
 module _ (kind : ℕ) (a : kind ≡ 1 → ⊥) (b : kind ≡ 2 → ⊥) (c : kind ≡ 3 → ⊥) (d : kind ≡ 4 → ⊥) where
-  pub unknown : (kind ≡ 5 → ⊥) → 0 ≡ body_length kind
+  pub unknown : (kind ≡ 5 → ⊥) → body_length kind ≡ 0
   unfolding body_length
   unknown e = simp (ne_eqb kind 1 a, ne_eqb kind 2 b, ne_eqb kind 3 c, ne_eqb kind 4 d, ne_eqb kind 5 e)
 
@@ -64,10 +69,61 @@ module _ (kind : ℕ) (body : List ℕ) where
   unfolding record_of
   note_is a b c d e f g h k = rw (e, f, g, h, k)
 
-  -- a note has 32 bytes
-  pub note_reaches : (m : ℕ) → length body ≡ body_length kind → kind ≡ 5 → m ≤ 32 → m ≤ length body
+-- ---- the same of a kind that the code knows by name
+
+-- each has bodies
+pub some_body : (kind : Kind) → 0 < body_length (kind_byte kind)
+unfolding body_length
+some_body NodeKind = omega arith
+some_body LowFloor = omega arith
+some_body HighFloor = omega arith
+some_body HoldKind = omega arith
+some_body NoteKind = omega arith
+
+module _ (kind : Kind) (body : List ℕ) (l : length body ≡ body_length (kind_byte kind)) where
+  -- how long the body of a kind that is known is
+  pub long : (other : Kind) → kind ≡ other → length body ≡ body_length (kind_byte other)
+  long other e = l ∙ ap (λ (k : Kind). body_length (kind_byte k)) e
+
+  -- all of it is one number
+  all : (n x : ℕ) → length body ≡ n → x ≡ big_endian body → x ≡ number_at n 0 body
+  all n x m e = e ∙ sym (ap big_endian (take_all n body (omega (arith, m))))
+
+  pub node_read : kind ≡ NodeKind → (x : ℕ) → x ≡ big_endian body → Node (record { address = x }) ≡ record_of (kind_byte kind) body
   unfolding body_length
-  note_reaches m l k h = omega (arith, ap body_length k)
+  node_read k x e = node_is (kind_byte kind) body x (all 6 x (long NodeKind k) e) (ap kind_byte k)
+
+  pub low_read : kind ≡ LowFloor → (x : ℕ) → x ≡ big_endian body → Floor (record { radio = Low; level = x }) ≡ record_of (kind_byte kind) body
+  unfolding body_length
+  low_read k x e = low_is (kind_byte kind) body x (all 2 x (long LowFloor k) e) (ap kind_byte k)
+
+  pub high_read : kind ≡ HighFloor → (x : ℕ) → x ≡ big_endian body → Floor (record { radio = High; level = x }) ≡ record_of (kind_byte kind) body
+  unfolding body_length
+  high_read k x e = high_is (kind_byte kind) body x (all 2 x (long HighFloor k) e) (ap kind_byte k)
+
+  pub hold_read : kind ≡ HoldKind → (x : ℕ) → x ≡ big_endian body → Hold (record { time = x }) ≡ record_of (kind_byte kind) body
+  unfolding body_length
+  hold_read k x e = hold_is (kind_byte kind) body x (all 4 x (long HoldKind k) e) (ap kind_byte k)
+
+  pub note_read : kind ≡ NoteKind → (a b c d : ℕ) → a ≡ number_at 8 0 body → b ≡ number_at 8 8 body → c ≡ number_at 8 16 body → d ≡ number_at 8 24 body
+      → Note (record { first = a; second = b; third = c; fourth = d }) ≡ record_of (kind_byte kind) body
+  note_read k a b c d e f g h = note_is (kind_byte kind) body a b c d e f g h (ap kind_byte k)
+
+  -- a number of n bytes is below 256^n
+  is_below : (fits : (k : ℕ) → Fits w8 (get_or body k 0)) (n x : ℕ) → length body ≡ n → x ≡ big_endian body → x < 256 ^ n
+  is_below fits n x m e = rw (e, ← m) (below body (λ k. (fits k).fits))
+
+  pub low_fits : kind ≡ LowFloor → ((k : ℕ) → Fits w8 (get_or body k 0)) → (x : ℕ) → x ≡ big_endian body → Fits w16 x
+  unfolding body_length
+  low_fits k fits x e = record { fits = is_below fits 2 x (long LowFloor k) e }
+
+  pub high_fits : kind ≡ HighFloor → ((k : ℕ) → Fits w8 (get_or body k 0)) → (x : ℕ) → x ≡ big_endian body → Fits w16 x
+  unfolding body_length
+  high_fits k fits x e = record { fits = is_below fits 2 x (long HighFloor k) e }
+
+  pub hold_fits : kind ≡ HoldKind → ((k : ℕ) → Fits w8 (get_or body k 0)) → (x : ℕ) → x ≡ big_endian body → Fits w32 x
+  unfolding body_length
+  hold_fits k fits x e = record { fits = is_below fits 4 x (long HoldKind k) e }
 
 -- a record of a kind and a body
 pub record Has (r : Record) (kind : ℕ) (body : List ℕ) : Type 0 where

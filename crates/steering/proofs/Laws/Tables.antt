@@ -6,10 +6,10 @@ use native.Mathlib.Numerals.{add-one}
 use native.Mathlib.Omega.{arith}
 use lib.ListN.{drop, get_or, length, length-drop, take, take-append-drop}
 use lib.Seq.{drop-cons, drop-drop, length-take-le}
+use Rattle.steering.specs.Answers.{Found}
 use Rattle.steering.specs.Numbers.{AreBytes}
 use Rattle.steering.specs.Reading.{read_at}
 use Rattle.steering.specs.Records.{body_length, body_of, kind_of}
-use Rattle.steering.specs.declared.reading.Reading.TheVariants.{Found}
 use Rattle.steering.specs.declared.records.Record.{Record}
 use Rattle.steering.proofs.Laws.Numbers.{bytes_drop, bytes_take}
 use Rattle.steering.proofs.Laws.Reading.{found}

@@ -8,11 +8,11 @@ use borrow.Author.Tests.{eq-eqb, eqb-false, eqb-true, le-ltb, lt-ltb, ltb-false,
 use lib.Dec.{eqb, ltb}
 use lib.ListN.{drop, length, length-append, length-drop, take, take-append-drop}
 use lib.Seq.{drop-drop, length-take-le, take_at}
+use Rattle.steering.specs.Answers.{Found}
 use Rattle.steering.specs.Numbers.{AreBytes}
 use Rattle.steering.specs.Reading.{read_at}
 use Rattle.steering.specs.Records.{Fits, body_length, body_of, kind_of, record_of}
 use Rattle.steering.specs.Writing.{put_at, write_answer, write_body_answer, write_body_leaves, write_body_refusal, write_leaves, write_refusal}
-use Rattle.steering.specs.declared.reading.Reading.TheVariants.{Found}
 use Rattle.steering.specs.declared.records.Record.{Record}
 use Rattle.steering.proofs.Laws.Complete.{body_length_lem, found_there, known, t}
 use Rattle.steering.proofs.Laws.Outcomes.{found_fits, record_fits}

@@ -1,29 +1,30 @@
 -- A record put into a room, byte by byte, and what a write answers and leaves. Assumes nothing.
 use mathlib.Core.Path.{◌≡◌, refl, sym, ap, ap₂, ◌∙◌}
 use mathlib.Core.Bool.{Bool, true, false}
-use mathlib.Core.List.{List, [], ◌∷◌, ◌++◌}
-use Prim.Native.Nat.{ℕ, suc, ◌+◌, ◌-◌, ◌/◌, ◌%◌, ◌^◌, ◌<◌, ◌≤◌}
-use native.Mathlib.Nat.{div-one, mod-eq_of_lt}
+use mathlib.Core.List.{List, [], ◌∷◌, ◌++◌, append_assoc}
+use Prim.Native.Nat.{ℕ, suc, ◌+◌, ◌-◌, ◌^◌, ◌<◌, ◌≤◌}
 use native.Mathlib.Numerals.{add-one}
 use native.Mathlib.Omega.{arith}
-use borrow.Author.Tests.{eq-eqb, le-ltb, lt-leb, lt-ltb, ltb-false, ltb-true, ne_eqb}
-use lib.Dec.{eqb, leb, ltb}
-use lib.ListN.{get_or, length, length-append, length-set, set}
+use borrow.Author.Tests.{eq-eqb, lt-leb, ltb-false, ne_eqb}
+use lib.Dec.{eqb, ltb}
+use lib.ListN.{drop, get_or, length, length-append, length-set, set, take}
+use borrow.Rule.Slice.PartMut.{put_mid}
 use mir.Syntax.{w8}
 use mir.Val.{Fits as Fits8}
-use lib.Seq.{length-sets, sets, sets-eq}
+use lib.Seq.{drop-drop, length-sets, sets, sets-eq}
+use Rattle.steering.specs.Answers.{Written}
+use Rattle.steering.specs.Kinds.{kind_byte}
 use Rattle.steering.specs.Numbers.{AreBytes, bytes_of}
 use Rattle.steering.specs.Records.{Fits, body_length, body_of, kind_of, record_of}
 use Rattle.steering.specs.Writing.{address_too_high, write_answer, write_body_answer, write_body_leaves, write_body_refusal, write_leaves, write_refusal}
-use Rattle.steering.specs.declared.records.NodeAddress.{NodeAddress}
+use Rattle.steering.specs.declared.kinds.Kind.{Kind}
 use Rattle.steering.specs.declared.records.Note.{Note as NoteFields}
 use Rattle.steering.specs.declared.records.Record.{Record}
 use Rattle.steering.specs.declared.records.Record.TheVariants.{Floor, Hold, Node, Note}
-use Rattle.steering.specs.declared.writing.Written.{Written}
 use Rattle.steering.proofs.Laws.Complete.{body_length_lem}
-use Rattle.steering.proofs.Laws.Numbers.{bytes_parts, bytes_rest, length_bytes}
+use Rattle.steering.proofs.Laws.Numbers.{length_bytes}
 use Rattle.steering.proofs.Laws.Outcomes.{record_fits}
-use Rattle.steering.proofs.Laws.Records.{Has, read_back}
+use Rattle.steering.proofs.Laws.Records.{Has, read_back, some_body}
 
 -- ---- numbers
 
@@ -33,48 +34,16 @@ sets_join room at [] ys = ap (λ (k : ℕ). sets room k ys) (omega arith)
 sets_join room at (x ∷ xs) ys =
     ap (λ (k : ℕ). sets (sets (set room at x) (suc at) xs) k ys) (omega arith) ∙ sets_join (set room at x) (suc at) xs ys
 
--- the two bytes of a number below 2^16
-pub two_put : (room : List ℕ) (at x : ℕ) → x < 2 ^ 16 → set (set room at (x / 256)) (at + 1) (x % 256) ≡ sets room at (bytes_of 2 x)
-unfolding bytes_of
-two_put room at x h =
-    let high : x / 256 < 256 = omega arith in
-    rw (add-one at, mod-eq_of_lt high, div-one x)
-
--- a number is put in two parts, of m bytes and of n
-pub parts_put : (m n : ℕ) (room mid after : List ℕ) (at x : ℕ) → mid ≡ sets room at (bytes_of m (x / 256 ^ n))
-    → after ≡ sets mid (at + m) (bytes_of n (x % 256 ^ n)) → after ≡ sets room at (bytes_of (m + n) x)
-parts_put m n room mid after at x p q =
-    let first = bytes_of m (x / 256 ^ n) in
-    let last = bytes_of n (x % 256 ^ n) in
-    q
-    ∙ ap₂ (λ (l : List ℕ) (k : ℕ). sets l (at + k) last) p (sym (length_bytes m (x / 256 ^ n)))
-    ∙ sets_join room at first last
-    ∙ ap (sets room at) (sym (bytes_parts m n x))
-
--- the same of the first part's remainder
-pub rest_put : (m n : ℕ) (room mid after : List ℕ) (at x : ℕ) → mid ≡ sets room at (bytes_of m (x / 256 ^ n % 256 ^ m))
-    → after ≡ sets mid (at + m) (bytes_of n (x % 256 ^ n)) → after ≡ sets room at (bytes_of (m + n) x)
-rest_put m n room mid after at x p q = parts_put m n room mid after at x (p ∙ ap (sets room at) (bytes_rest m (x / 256 ^ n))) q
+-- a run of bytes copied over so many of the room, from a place on
+pub put_part : (room last xs : List ℕ) (at n : ℕ) → last ≡ xs → length xs ≡ n → at + n ≤ length room → put_mid at (at + n - at) room last ≡ sets room at xs
+put_part room last xs at n e l h =
+    let k : at + n - at ≡ length xs = omega (arith, l) in
+    rw (e, k, drop-drop (length xs) at room, ← append_assoc (take at room) xs (drop (at + length xs) room))
+    (sym (sets-eq xs room at (omega (arith, l, h))))
 
 -- a byte and a run of bytes leave as many
 pub as_long : (room after : List ℕ) (place at x : ℕ) (xs : List ℕ) → after ≡ sets (set room place x) at xs → length after ≡ length room
 as_long room after place at x xs e = ap length e ∙ length-sets (set room place x) at xs ∙ length-set room place x
-
--- ---- tests
-
-module _ (room place more : ℕ) where
-  pub past_room : room ≤ place → true ≡ ltb room (place + 1 + more)
-  past_room h = sym (lt-ltb room (place + 1 + more) (omega arith))
-
-  pub left_of_room : place < room → ltb (room - place - 1) more ≡ ltb room (place + 1 + more)
-  left_of_room h = by (ltb (room - place - 1) more) refl
-    where
-      by : (t : Bool) → ltb (room - place - 1) more ≡ t → ltb (room - place - 1) more ≡ ltb room (place + 1 + more)
-      by true p = p ∙ sym (lt-ltb room (place + 1 + more) (omega (arith, ltb-true (room - place - 1) more p)))
-      by false p = p ∙ sym (le-ltb room (place + 1 + more) (omega (arith, ltb-false (room - place - 1) more p)))
-
-pub node_too_high : (r : Record) (n : NodeAddress) → r ≡ Node n → leb (2 ^ 48) n.address ≡ address_too_high r
-node_too_high r n e = sym (ap address_too_high e)
 
 pub never_too_high : (r : Record) → Fits r → address_too_high r ≡ false
 never_too_high (Node a) f = lt-leb (2 ^ 48) a.address f
@@ -114,9 +83,6 @@ note_put room one two three after at n p q r s =
 
 -- the body of a record that is known
 module _ (r q : Record) (is : r ≡ q) where
-  pub body_put : (room after : List ℕ) (at : ℕ) → after ≡ sets room at (body_of q) → after ≡ sets room at (body_of r)
-  body_put room after at e = e ∙ ap (λ (s : Record). sets room at (body_of s)) (sym is)
-
   pub body_fits : (k at room : ℕ) → at + length (body_of r) ≤ room → length (body_of q) ≡ k → at + k ≤ room
   body_fits k at room h l = omega (arith, h, l, ap (λ (s : Record). length (body_of s)) is)
 
@@ -136,9 +102,9 @@ module _ (room : List ℕ) (place : ℕ) (r : Record) (kind n : ℕ) (k : kind �
     short_is = rw (← n_bytes) (sym s)
 
     module _ (yes : short ≡ true) where
-      pub answer_5 : (a : Written) → a ≡ record { refusal = 5; next = 0 } → a ≡ write_answer (length room) place r
+      pub answer_5 : record { refusal = 5; next = 0 } ≡ write_answer (length room) place r
       unfolding write_answer write_refusal
-      answer_5 a f = f ∙ rw (short_is, yes)
+      answer_5 = rw (short_is, yes)
 
       pub left_5 : room ≡ write_leaves room place r
       unfolding write_leaves write_refusal
@@ -151,8 +117,8 @@ module _ (room : List ℕ) (place : ℕ) (r : Record) (kind n : ℕ) (k : kind �
       pub place_in_room : place < length room
       place_in_room = omega (arith, record_fits_room)
 
-      pub body_in_room : place + 1 + length (body_of r) ≤ length (set room place kind)
-      body_in_room = omega (arith, record_fits_room, n_bytes, length-set room place kind)
+      pub body_in_room : (byte : ℕ) → place + 1 + length (body_of r) ≤ length (set room place byte)
+      body_in_room byte = omega (arith, record_fits_room, n_bytes, length-set room place byte)
 
       module _ (slice : length room < 2 ^ 64) where
         pub body_place_fits : place + 1 < 2 ^ 64
@@ -165,9 +131,9 @@ module _ (room : List ℕ) (place : ℕ) (r : Record) (kind n : ℕ) (k : kind �
         next_fits = omega (arith, record_fits_room)
 
       module _ (high : Bool) (h : high ≡ address_too_high r) where
-        pub answer_12 : high ≡ true → (a : Written) → a ≡ record { refusal = 12; next = 0 } → a ≡ write_answer (length room) place r
+        pub answer_12 : high ≡ true → record { refusal = 12; next = 0 } ≡ write_answer (length room) place r
         unfolding write_answer write_refusal
-        answer_12 y a f = f ∙ rw (short_is, no, ← h, y)
+        answer_12 y = rw (short_is, no, ← h, y)
 
         pub left_12 : high ≡ true → room ≡ write_leaves room place r
         unfolding write_leaves write_refusal
@@ -179,69 +145,74 @@ module _ (room : List ℕ) (place : ℕ) (r : Record) (kind n : ℕ) (k : kind �
             let to : place + n + 1 ≡ place + 1 + length (body_of r) = omega (arith, n_bytes) in
             rw (short_is, no, ← h, y) (ap (λ (k : ℕ). record { refusal = 0; next = k }) to)
 
-        pub left_done : high ≡ false → (after : List ℕ) → after ≡ sets (set room place kind) (place + 1) (body_of r) → after ≡ write_leaves room place r
+        pub left_done : high ≡ false → (byte : ℕ) → byte ≡ kind_of r → (after : List ℕ) → after ≡ sets (set room place byte) (place + 1) (body_of r)
+            → after ≡ write_leaves room place r
         unfolding write_leaves write_refusal
-        left_done y after f =
+        left_done y byte b after f =
             f
-            ∙ ap₂ (λ (x j : ℕ). sets (set room place x) j (body_of r)) k (add-one place)
+            ∙ ap₂ (λ (x j : ℕ). sets (set room place x) j (body_of r)) b (add-one place)
             ∙ sets-eq (kind_of r ∷ body_of r) room place (omega (arith, record_fits_room, n_bytes))
             ∙ rw (short_is, no, ← h, y)
 
--- a record by its kind byte and its body; n is how long the kind's are
-module _ (room : List ℕ) (place kind : ℕ) (body : List ℕ) (short : Bool) (s : short ≡ ltb (length room) (place + 1 + length body)) where
+-- a record by its kind byte and its body
+module _ (room : List ℕ) (place byte : ℕ) (body : List ℕ) (short : Bool) (s : short ≡ ltb (length room) (place + 1 + length body)) where
   module _ (yes : short ≡ true) where
-    pub body_answer_5 : (a : Written) → a ≡ record { refusal = 5; next = 0 } → a ≡ write_body_answer (length room) place kind (length body)
+    pub body_answer_5 : record { refusal = 5; next = 0 } ≡ write_body_answer (length room) place byte (length body)
     unfolding write_body_answer write_body_refusal
-    body_answer_5 a f = f ∙ rw (← s, yes)
+    body_answer_5 = rw (← s, yes)
 
-    pub body_left_5 : room ≡ write_body_leaves room place kind body
+    pub body_left_5 : room ≡ write_body_leaves room place byte body
     unfolding write_body_leaves write_body_refusal
     body_left_5 = rw (← s, yes)
 
-  module _ (no : short ≡ false) (n : ℕ) (e : n ≡ body_length kind) where
-    module _ (z : n ≡ 0) where
-      pub body_answer_9 : (a : Written) → a ≡ record { refusal = 9; next = 0 } → a ≡ write_body_answer (length room) place kind (length body)
+  module _ (no : short ≡ false) where
+    module _ (z : body_length byte ≡ 0) where
+      pub body_answer_9 : record { refusal = 9; next = 0 } ≡ write_body_answer (length room) place byte (length body)
       unfolding write_body_answer write_body_refusal
-      body_answer_9 a f = f ∙ rw (← s, no, ← e, z)
+      body_answer_9 = rw (← s, no, z)
 
-      pub body_left_9 : room ≡ write_body_leaves room place kind body
+      pub body_left_9 : room ≡ write_body_leaves room place byte body
       unfolding write_body_leaves write_body_refusal
-      body_left_9 = rw (← s, no, ← e, z)
+      body_left_9 = rw (← s, no, z)
 
-    module _ (z : n ≡ 0 → ⊥) where
-      known_kind : eqb (body_length kind) 0 ≡ false
-      known_kind = ne_eqb (body_length kind) 0 (λ q. z (e ∙ q))
+    -- n is how long the bodies of the kind are
+    module _ (kind : Kind) (is : kind_byte kind ≡ byte) (n : ℕ) (e : n ≡ body_length (kind_byte kind)) where
+      n_is : n ≡ body_length byte
+      n_is = e ∙ ap body_length is
+
+      known_kind : eqb (body_length byte) 0 ≡ false
+      known_kind = ne_eqb (body_length byte) 0 (λ q. omega (arith, some_body kind, e, n_is, q))
 
       module _ (other : n ≡ length body → ⊥) where
-        unlike : eqb (length body) (body_length kind) ≡ false
-        unlike = ne_eqb (length body) (body_length kind) (λ q. other (e ∙ sym q))
+        unlike : eqb (length body) (body_length byte) ≡ false
+        unlike = ne_eqb (length body) (body_length byte) (λ q. other (n_is ∙ sym q))
 
-        pub body_answer_10 : (a : Written) → a ≡ record { refusal = 10; next = 0 } → a ≡ write_body_answer (length room) place kind (length body)
+        pub body_answer_10 : record { refusal = 10; next = 0 } ≡ write_body_answer (length room) place byte (length body)
         unfolding write_body_answer write_body_refusal
-        body_answer_10 a f = f ∙ rw (← s, no, known_kind, unlike)
+        body_answer_10 = rw (← s, no, known_kind, unlike)
 
-        pub body_left_10 : room ≡ write_body_leaves room place kind body
+        pub body_left_10 : room ≡ write_body_leaves room place byte body
         unfolding write_body_leaves write_body_refusal
         body_left_10 = rw (← s, no, known_kind, unlike)
 
       -- the record of that kind and body has these bytes, and its address is below 2^48
-      module _ (same : n ≡ length body) (fits : (k : ℕ) → Fits8 w8 (get_or body k 0)) (r : Record) (is : r ≡ record_of kind body) where
+      module _ (same : n ≡ length body) (fits : (k : ℕ) → Fits8 w8 (get_or body k 0)) (r : Record) (made : r ≡ record_of (kind_byte kind) body) where
         bytes : AreBytes body
         bytes k = (fits k).fits
 
-        has : Has r kind body
-        has = rw is (read_back kind body (sym same ∙ e) bytes (omega (arith, e)))
+        has : Has r byte body
+        has = rw (made, is) (read_back byte body (sym same ∙ n_is) bytes (omega (arith, some_body kind, e, n_is)))
 
-        alike : eqb (length body) (body_length kind) ≡ true
-        alike = eq-eqb (length body) (body_length kind) (sym same ∙ e)
+        alike : eqb (length body) (body_length byte) ≡ true
+        alike = eq-eqb (length body) (body_length byte) (sym same ∙ n_is)
 
         low : address_too_high r ≡ false
-        low = never_too_high r (rw is (record_fits kind body bytes))
+        low = never_too_high r (rw (made, is) (record_fits byte body bytes))
 
-        pub body_answer : (a : Written) → a ≡ write_answer (length room) place r → a ≡ write_body_answer (length room) place kind (length body)
+        pub body_answer : (a : Written) → a ≡ write_answer (length room) place r → a ≡ write_body_answer (length room) place byte (length body)
         unfolding write_answer write_refusal write_body_answer write_body_refusal
         body_answer a f = f ∙ rw (has.body_is, ← s, no, low, known_kind, alike)
 
-        pub body_left : (after : List ℕ) → after ≡ write_leaves room place r → after ≡ write_body_leaves room place kind body
+        pub body_left : (after : List ℕ) → after ≡ write_leaves room place r → after ≡ write_body_leaves room place byte body
         unfolding write_leaves write_refusal write_body_leaves write_body_refusal
         body_left after f = f ∙ rw (has.body_is, has.kind_is, ← s, no, low, known_kind, alike)

@@ -1,23 +1,19 @@
--- `count` meets its contract. The loop's invariant: the count of all is that of the records passed and the rest. Assumes nothing.
-use native.Mathlib.Omega.{arith}
-use Rattle.steering.proofs.Laws.Parsing.{count_end, count_next, count_start, count_stop}
+-- `count` meets its contract, a case for each reading. Assumes nothing.
+use Rattle.std.proofs.lemmas.Result.{err_from_is_err_and}
+use Rattle.steering.proofs.Laws.Parsing.{count_end, count_next, count_stop}
 use Rattle.steering.proofs.Laws.Reading.{less_left}
 use Rattle.steering.proofs.counting.count.Goals as goal
 
-pub loop-next-init : goal.loop-next-init
-loop-next-init c = search count_start
-
-pub overflow_add-records : goal.overflow_add-records
-overflow_add-records c = omega arith
+pub returns-in_err-next : goal.returns-in_err-next
+returns-in_err-next c =
+    let p = err_from_is_err_and c.from_residual.result c.from_residual.ensures.1 in
+    rw (p.1, p.2) (search (count_stop, c.in_err-next.ensures))
 
 pub loop-next-smaller : goal.loop-next-smaller
-loop-next-smaller c = search less_left
+loop-next-smaller c = let e = rw c.in-Some.is at c.in_ok-next.ensures in search (less_left, e)
 
 pub loop-next-preserved : goal.loop-next-preserved
-loop-next-preserved c = search count_next
+loop-next-preserved c = let e = rw c.in-Some.is at c.in_ok-next.ensures in search (count_next, e)
 
-pub returns-in-End : goal.returns-in-End
-returns-in-End c = search count_end
-
-pub returns-in-Refused : goal.returns-in-Refused
-returns-in-Refused c = search count_stop
+pub returns : goal.returns
+returns c = let e = rw c.in_default.is at c.in_ok-next.ensures in search (count_end, e)

@@ -1,50 +1,62 @@
--- `record_of` meets its contract, a case for each return. Assumes nothing.
-use mathlib.Core.Path.{ap}
+-- `record_of` meets its contract, a case for each kind. Assumes nothing.
 use native.Mathlib.Omega.{arith}
-use lib.Dec.{lit≤}
 use Rattle.steering.specs.Records.{body_length}
-use Rattle.steering.proofs.Laws.Records.{high_is, hold_is, last_kind, low_is, node_is, note_is, note_reaches}
+use Rattle.steering.specs.declared.kinds.Kind.TheVariants.{HighFloor, Hold, LowFloor, Node, Note}
+use Rattle.steering.proofs.Laws.Records.{high_fits, high_read, hold_fits, hold_read, long, low_fits, low_read, node_read, note_read}
 use Rattle.steering.proofs.records.record_of.Goals as goal
 
-pub six-requires : goal.six-requires
+pub number-requires : goal.number-requires
 unfolding body_length
-six-requires c = omega (arith, ap body_length c.if-kind-eq1.true)
+number-requires c = omega (arith, long c.args.kind c.args.body.now c.requires Node c.in-Node.is)
 
-pub returns-then-kind-eq1 : goal.returns-then-kind-eq1
-returns-then-kind-eq1 c = search node_is
-
-pub two-requires : goal.two-requires
+pub number-requires-in-LowFloor : goal.number-requires-in-LowFloor
 unfolding body_length
-two-requires c = omega (arith, ap body_length c.if-kind-eq2.true)
+number-requires-in-LowFloor c = omega (arith, long c.args.kind c.args.body.now c.requires LowFloor c.in-LowFloor.is)
 
-pub returns-then-kind-eq2 : goal.returns-then-kind-eq2
-returns-then-kind-eq2 c = search low_is
-
-pub two-requires-then-kind-eq3 : goal.two-requires-then-kind-eq3
+pub number-requires-in-HighFloor : goal.number-requires-in-HighFloor
 unfolding body_length
-two-requires-then-kind-eq3 c = omega (arith, ap body_length c.if-kind-eq3.true)
+number-requires-in-HighFloor c = omega (arith, long c.args.kind c.args.body.now c.requires HighFloor c.in-HighFloor.is)
 
-pub returns-then-kind-eq3 : goal.returns-then-kind-eq3
-returns-then-kind-eq3 c = search high_is
-
-pub four-requires : goal.four-requires
+pub number-requires-in-Hold : goal.number-requires-in-Hold
 unfolding body_length
-four-requires c = omega (arith, ap body_length c.if-kind-eq4.true)
+number-requires-in-Hold c = omega (arith, long c.args.kind c.args.body.now c.requires Hold c.in-Hold.is)
 
-pub returns-then-kind-eq4 : goal.returns-then-kind-eq4
-returns-then-kind-eq4 c = search hold_is
+pub slice_bounds-number-end : goal.slice_bounds-number-end
+unfolding body_length
+slice_bounds-number-end c = omega (arith, long c.args.kind c.args.body.now c.requires Note c.in-Note.is)
 
-pub eight-requires : goal.eight-requires
-eight-requires c = search (note_reaches, last_kind, lit≤)
+pub slice_bounds-number-end-in-Note : goal.slice_bounds-number-end-in-Note
+unfolding body_length
+slice_bounds-number-end-in-Note c = omega (arith, long c.args.kind c.args.body.now c.requires Note c.in-Note.is)
 
-pub eight-requires-2 : goal.eight-requires-2
-eight-requires-2 c = search (note_reaches, last_kind, lit≤)
+pub slice_bounds-number-end-in-Note-2 : goal.slice_bounds-number-end-in-Note-2
+unfolding body_length
+slice_bounds-number-end-in-Note-2 c = omega (arith, long c.args.kind c.args.body.now c.requires Note c.in-Note.is)
 
-pub eight-requires-3 : goal.eight-requires-3
-eight-requires-3 c = search (note_reaches, last_kind, lit≤)
+pub slice_bounds-number-end-in-Note-3 : goal.slice_bounds-number-end-in-Note-3
+unfolding body_length
+slice_bounds-number-end-in-Note-3 c = omega (arith, long c.args.kind c.args.body.now c.requires Note c.in-Note.is)
 
-pub eight-requires-4 : goal.eight-requires-4
-eight-requires-4 c = search (note_reaches, last_kind, lit≤)
+pub overflow_cast-result : goal.overflow_cast-result
+overflow_cast-result c = search (low_fits, c.type_inv.body)
 
-pub returns : goal.returns
-returns c = search (note_is, last_kind)
+pub overflow_cast-result-in-HighFloor : goal.overflow_cast-result-in-HighFloor
+overflow_cast-result-in-HighFloor c = search (high_fits, c.type_inv.body)
+
+pub overflow_cast-result-in-Hold : goal.overflow_cast-result-in-Hold
+overflow_cast-result-in-Hold c = search (hold_fits, c.type_inv.body)
+
+pub returns-in-Node : goal.returns-in-Node
+returns-in-Node c = search node_read
+
+pub returns-in-LowFloor : goal.returns-in-LowFloor
+returns-in-LowFloor c = search low_read
+
+pub returns-in-HighFloor : goal.returns-in-HighFloor
+returns-in-HighFloor c = search high_read
+
+pub returns-in-Hold : goal.returns-in-Hold
+returns-in-Hold c = search hold_read
+
+pub returns-in-Note : goal.returns-in-Note
+returns-in-Note c = search note_read

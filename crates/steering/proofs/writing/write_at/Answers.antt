@@ -1,6 +1,6 @@
 -- `write_at` meets its contract, a case for each return. Assumes nothing.
-use Rattle.steering.proofs.Laws.Writing.{answer_12, answer_5, answer_done, as_long, body_in_room, body_place_fits}
-use Rattle.steering.proofs.Laws.Writing.{left_12, left_5, left_done, length-fits, next_fits, place_in_room}
+use Rattle.steering.proofs.Laws.Writing.{answer_12, answer_5, answer_done, body_in_room}
+use Rattle.steering.proofs.Laws.Writing.{left_12, left_5, left_done}
 use Rattle.steering.proofs.writing.write_at.Goals as goal
 
 pub returns-then-is_short-clause-answer : goal.returns-then-is_short-clause-answer
@@ -15,23 +15,8 @@ returns-then-is_too_high-clause-answer c = search answer_12
 pub returns-then-is_too_high-clause-left : goal.returns-then-is_too_high-clause-left
 returns-then-is_too_high-clause-left c = search left_12
 
-pub bounds-room-place : goal.bounds-room-place
-bounds-room-place c = search place_in_room
-
-pub overflow_add-place : goal.overflow_add-place
-overflow_add-place c = search body_place_fits
-
 pub put_body-requires : goal.put_body-requires
 put_body-requires c = search body_in_room
-
-pub overflow_add-next : goal.overflow_add-next
-overflow_add-next c = search length-fits
-
-pub overflow_add-next-2 : goal.overflow_add-next-2
-overflow_add-next-2 c = search next_fits
-
-pub shape_of-room : goal.shape_of-room
-shape_of-room c = search as_long
 
 pub returns-clause-answer : goal.returns-clause-answer
 returns-clause-answer c = search answer_done

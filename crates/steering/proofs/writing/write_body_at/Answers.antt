@@ -8,20 +8,20 @@ returns-then-is_short-clause-answer c = search body_answer_5
 pub returns-then-is_short-clause-left : goal.returns-then-is_short-clause-left
 returns-then-is_short-clause-left c = search body_left_5
 
-pub returns-then-length-eq0-clause-answer : goal.returns-then-length-eq0-clause-answer
-returns-then-length-eq0-clause-answer c = search body_answer_9
+pub returns-in_default-clause-answer : goal.returns-in_default-clause-answer
+returns-in_default-clause-answer c = search (body_answer_9, c.in_default.ensures.1)
 
-pub returns-then-length-eq0-clause-left : goal.returns-then-length-eq0-clause-left
-returns-then-length-eq0-clause-left c = search body_left_9
+pub returns-in_default-clause-left : goal.returns-in_default-clause-left
+returns-in_default-clause-left c = search (body_left_9, c.in_default.ensures.1)
 
-pub returns-then-length-body-clause-answer : goal.returns-then-length-body-clause-answer
-returns-then-length-body-clause-answer c = search body_answer_10
+pub returns-then-body_length-body-clause-answer : goal.returns-then-body_length-body-clause-answer
+returns-then-body_length-body-clause-answer c = search (body_answer_10, c.in-Ok.ensures)
 
-pub returns-then-length-body-clause-left : goal.returns-then-length-body-clause-left
-returns-then-length-body-clause-left c = search body_left_10
+pub returns-then-body_length-body-clause-left : goal.returns-then-body_length-body-clause-left
+returns-then-body_length-body-clause-left c = search (body_left_10, c.in-Ok.ensures)
 
 pub returns-clause-answer : goal.returns-clause-answer
-returns-clause-answer c = search (body_answer, c.shared_slice_known-1.given)
+returns-clause-answer c = search (body_answer, c.in-Ok.ensures, c.type_inv.body)
 
 pub returns-clause-left : goal.returns-clause-left
-returns-clause-left c = search (body_left, c.shared_slice_known-1.given)
+returns-clause-left c = search (body_left, c.in-Ok.ensures, c.type_inv.body)

@@ -1,54 +1,74 @@
--- What the crates above may cite of this one, besides its specs and its contracts: each promise is in the words of specs/, and its proof is a law of this
--- crate. Assumes nothing.
-use mathlib.Core.Path.{◌≡◌, sym}
-use mathlib.Core.Bool.{true}
-use mathlib.Core.List.{List, [], ◌∷◌, ◌++◌}
-use Prim.Native.Nat.{ℕ, ◌+◌, ◌*◌, ◌-◌, ◌<◌, ◌≤◌}
-use lib.ListN.{length}
-use Rattle.digits.specs.Hexadecimal.{nibble_of}
-use Rattle.digits.specs.Numbers.{number_from, number_of}
-use Rattle.digits.specs.Salts.{salt_from, salt_of}
-use Rattle.digits.proofs.Laws.Hexadecimal as hexadecimal
-use Rattle.digits.proofs.Laws.Numbers as number
-use Rattle.digits.proofs.Laws.Salts as salt
+-- What the crates above may cite of this one, besides its specs and its contracts: each promise is in the words of specs/. Assumes nothing.
+use Rattle.std.proofs.Common.{◌≡◌, List, [], ◌∷◌, ◌++◌, ℕ, ◌+◌, ◌*◌, ◌-◌, ◌<◌, ◌≤◌, drop, length, replicate, None, Some, arith, eq-eqb, le-leb, refl}
+use Rattle.std.proofs.lemmas.Bool.{lt-leb}
+use Rattle.std.specs.Option.{option_and_then}
+use Rattle.digits.specs.Hexadecimal.{byte_of, bytes_from, bytes_of, nibble_of}
+use Rattle.digits.specs.Numbers.{decimal_of, number_from, number_of}
+use Rattle.digits.specs.Salts.{salt_of}
 
--- ---- the value of a digit, and 16 of what is none
+-- ---- the value of a digit, and none of what is none
 
 module _ (x : ℕ) where
-  pub before_digits : x < 48 → nibble_of x ≡ 16
-  before_digits h = sym (hexadecimal.before_digits x h)
+  pub before_digits : x < 48 → nibble_of x ≡ None
+  unfolding nibble_of
+  before_digits h = simp (lt-leb 48 x h, lt-leb 65 x (omega arith), lt-leb 97 x (omega arith))
 
-  pub digit : 48 ≤ x → x ≤ 57 → nibble_of x ≡ x - 48
-  digit h g = sym (hexadecimal.digit x h g)
+  pub digit : 48 ≤ x → x ≤ 57 → nibble_of x ≡ Some (x - 48)
+  unfolding nibble_of
+  digit h g = simp (le-leb 48 x h, le-leb x 57 g)
 
-  pub capital : 65 ≤ x → x ≤ 70 → nibble_of x ≡ x - 65 + 10
-  capital h g = sym (hexadecimal.capital x h g)
+  pub capital : 65 ≤ x → x ≤ 70 → nibble_of x ≡ Some (x - 65 + 10)
+  unfolding nibble_of
+  capital h g = simp (le-leb 48 x (omega arith), lt-leb x 57 (omega arith), le-leb 65 x h, le-leb x 70 g)
 
-  pub before_small : 70 < x → x < 97 → nibble_of x ≡ 16
-  before_small h g = sym (hexadecimal.before_small x h g)
+  pub before_small : 70 < x → x < 97 → nibble_of x ≡ None
+  unfolding nibble_of
+  before_small h g = simp (le-leb 48 x (omega arith), lt-leb x 57 (omega arith), le-leb 65 x (omega arith), lt-leb x 70 h, lt-leb 97 x g)
 
-  pub small : 97 ≤ x → x ≤ 102 → nibble_of x ≡ x - 97 + 10
-  small h g = sym (hexadecimal.small x h g)
+  pub small : 97 ≤ x → x ≤ 102 → nibble_of x ≡ Some (x - 97 + 10)
+  unfolding nibble_of
+  small h g =
+      simp (
+        le-leb 48 x (omega arith),
+        lt-leb x 57 (omega arith),
+        le-leb 65 x (omega arith),
+        lt-leb x 70 (omega arith),
+        le-leb 97 x h,
+        le-leb x 102 g,
+      )
 
 -- ---- a number, digit by digit
 
 pub number_begins : (word : List ℕ) → 1 ≤ length word → length word ≤ 16 → number_of word ≡ number_from 0 word
-number_begins = number.number_begins
+unfolding number_of
+number_begins word h g = simp (le-leb 1 (length word) h, le-leb (length word) 16 g)
 
-pub number_more : (n x : ℕ) (rest : List ℕ) → nibble_of x ≤ 9 → number_from n (x ∷ rest) ≡ number_from (10 * n + nibble_of x) rest
-number_more = number.number_more
+pub number_more : (n x d : ℕ) (rest : List ℕ) → nibble_of x ≡ Some d → d ≤ 9 → number_from n (x ∷ rest) ≡ number_from (10 * n + d) rest
+unfolding number_from decimal_of
+number_more n x d rest e h = rw e (simp (le-leb d 9 h))
 
-pub number_none : (n : ℕ) → number_from n [] ≡ record { is_good = true; value = n }
-number_none = number.number_none
+pub number_none : (n : ℕ) → number_from n [] ≡ Some n
+unfolding number_from
+number_none n = refl
 
--- ---- a salt, by pairs of digits
+-- ---- bytes, by pairs of digits
 
-pub salt_begins : (word : List ℕ) → length word ≡ 32 → salt_of word ≡ salt_from [] word
-salt_begins = salt.salt_begins
+pub bytes_begin : (n : ℕ) (text : List ℕ) → length text ≤ 2 * n
+    → bytes_of n text ≡ option_and_then (λ bytes. Some (bytes ++ drop (length bytes) (replicate n 0))) (bytes_from [] text)
+unfolding bytes_of
+bytes_begin n text h = simp (le-leb (length text) (2 * n) h)
 
-pub salt_more : (bytes : List ℕ) (x y : ℕ) (rest : List ℕ) → nibble_of x ≤ 15 → nibble_of y ≤ 15
-    → salt_from bytes (x ∷ y ∷ rest) ≡ salt_from (bytes ++ ((16 * nibble_of x + nibble_of y) ∷ [])) rest
-salt_more = salt.salt_more
+pub bytes_more : (bytes : List ℕ) (x y high low : ℕ) (rest : List ℕ) → nibble_of x ≡ Some high → nibble_of y ≡ Some low
+    → bytes_from bytes (x ∷ y ∷ rest) ≡ bytes_from (bytes ++ ((16 * high + low) ∷ [])) rest
+unfolding bytes_from byte_of
+bytes_more bytes x y high low rest h g = rw (h, g)
 
-pub salt_none : (bytes : List ℕ) → salt_from bytes [] ≡ record { is_good = true; bytes = bytes }
-salt_none = salt.salt_none
+pub bytes_none : (bytes : List ℕ) → bytes_from bytes [] ≡ Some bytes
+unfolding bytes_from
+bytes_none bytes = refl
+
+-- ---- a salt
+
+pub salt_begins : (word : List ℕ) → length word ≡ 32 → salt_of word ≡ bytes_from [] word
+unfolding salt_of
+salt_begins word h = simp (eq-eqb (length word) 32 h)

@@ -1,45 +1,29 @@
 // Numbers in decimal.
-ghost use Rattle.std.specs.Prelude.{◌≡◌};
-ghost use Rattle.digits.specs.Numbers.{number_of};
+ghost use Rattle.std.specs.Prelude.{◌≡◌, ◌≤◌, IfSome};
+ghost use Rattle.digits.specs.Numbers.{decimal_of, number_of};
 
 use super::hexadecimal::nibble;
 
-#[derive(Clone, Copy)]
-pub struct Number {
-    pub is_good: bool,
-    pub value: u64,
-}
-
-fn wide(x: u8) -> u64
-    ensures { result ≡ x }
+// The value of a decimal digit.
+#[tactic(auto, unfolding(crate::specs::Numbers::decimal_of))]
+fn decimal(digit: u8) -> Option<u8>
+    ensures is { result ≡ decimal_of digit }
+    ensures small { IfSome result (λ value. value ≤ 9) }
 {
-    x as u64
+    nibble(digit).filter(|value| *value <= 9)
 }
 
 // One to sixteen decimal digits, so that the value fits.
-pub fn number_in(word: &[u8]) -> Number
+#[tactic(auto, using(crate::proofs::Laws::Numbers::one_more, crate::proofs::Laws::Numbers::number_turn,), unfolding(crate::specs::Numbers::number_of, crate::specs::Numbers::number_from))]
+pub fn number_in(word: &[u8]) -> Option<u64>
     ensures { result ≡ number_of word.now }
 {
-    let none = Number {
-        is_good: false,
-        value: 0,
-    };
-    if word.len() < 1 {
-        return none;
-    }
-    if 16 < word.len() {
-        return none;
+    if word.is_empty() || 16 < word.len() {
+        return None;
     }
     let mut value = 0;
-    for i in 0..word.len() {
-        let digit = nibble(word[i]);
-        if 9 < digit {
-            return none;
-        }
-        value = 10 * value + wide(digit);
+    for digit in word {
+        value = 10 * value + u64::from(decimal(*digit)?);
     }
-    Number {
-        is_good: true,
-        value: value,
-    }
+    Some(value)
 }

@@ -2,7 +2,10 @@
 ghost use Rattle.std.specs.Io.{WritesAtMost};
 
 use super::descriptors::allows_writing;
-use super::{Source, open, read, read_full, standard_input, word, word_count, write_all, write_to};
+use super::{
+    Error, Source, open, read, read_all, read_full, standard_input, word, word_count, write_all,
+    write_to,
+};
 use std::env::{Env, FillError};
 use std::io;
 use std::io::{Read, Write};
@@ -104,7 +107,7 @@ fn a_read_that_fails_is_told(rt: HostRuntime) {
         fails: true,
     };
     assert_eq!(rt; read(&mut from, &mut room), Ok(2));
-    assert_eq!(rt; read(&mut from, &mut room), Err(5));
+    assert_eq!(rt; read(&mut from, &mut room), Err(Error { number: 5 }));
     for fails in [false, true] {
         let mut from = Halting { turns: 3, fails };
         assert_eq!(rt; read_full(&mut from, &mut room), 6);
@@ -115,11 +118,23 @@ fn a_read_that_fails_is_told(rt: HostRuntime) {
         fails: true,
     };
     assert_eq!(rt; read_full(&mut from, &mut room), 8);
+    for (turns, fails, answer) in [
+        (3, false, Ok(6)),
+        (3, true, Err(Error { number: 5 })),
+        (9, true, Ok(8)),
+    ] {
+        let mut from = Halting { turns, fails };
+        assert_eq!(rt; read_all(&mut from, &mut room), answer);
+    }
 }
 
 #[test]
 fn a_write_that_fails_is_told(rt: HostRuntime) {
-    for (turns, fails, answer) in [(2, true, Ok(())), (1, true, Err(28)), (1, false, Err(5))] {
+    for (turns, fails, answer) in [
+        (2, true, Ok(())),
+        (1, true, Err(Error { number: 28 })),
+        (1, false, Err(Error { number: 5 })),
+    ] {
         let mut to = Halting { turns, fails };
         assert_eq!(rt; write_all(&mut to, b"abc"), answer);
     }
@@ -141,12 +156,12 @@ fn what_cannot_be_opened_is_told(rt: HostRuntime) -> Result<(), Fail> {
     for (name, number) in names {
         match open(&rt, name) {
             Ok(_) => assert!(rt; false),
-            Err(error) => assert_eq!(rt; error, number),
+            Err(error) => assert_eq!(rt; error.number, number),
         }
     }
     assert!(rt; open(&rt, b"/").is_ok());
     for descriptor in [-1, 2, 10] {
-        assert_eq!(rt; write_to(&rt, descriptor, b"0\n"), Err(9));
+        assert_eq!(rt; write_to(&rt, descriptor, b"0\n"), Err(Error { number: 9 }));
     }
     match standard_input(&rt) {
         Source::Input(_) => Ok(()),

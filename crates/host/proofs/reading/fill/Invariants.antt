@@ -1,7 +1,7 @@
 -- The room keeps its length, no more than that is put into it, and what is put there is what the reader gave.
 use Rattle.std.proofs.Common.{length, take, ◌-◌, ◌≡◌, ◌≤◌}
 use Rattle.std.specs.Io.KnownBytes.{Consumes}
-use Rattle.host.proofs.reading.read_full.Given as goal
+use Rattle.host.proofs.reading.fill.Given as goal
 
 abbrev pub invariant-loop-done : goal.invariant-loop-done
 invariant-loop-done g l =

@@ -4,3 +4,4 @@ pub mod Lines
 pub mod Names
 pub mod Numbers
 pub mod Reasons
+pub mod Texts

@@ -11,6 +11,7 @@ use Rattle.lines.specs.Names.{escape_of, is_plain, mark_of}
 use Rattle.lines.proofs.Laws.Decimal as decimal
 use Rattle.lines.proofs.Laws.Lines as texts
 use Rattle.lines.proofs.Laws.Names as names
+use Rattle.lines.proofs.Laws.Texts as lines
 
 -- ---- texts put into a room
 
@@ -28,6 +29,12 @@ put_join = texts.put_join
 -- what is put at the front of a room that is long enough stands there
 pub put_stands : (room text after : List ℕ) (r : ℕ) → Put room 0 text after r → length text ≤ length room → take r after ≡ text
 put_stands = texts.put_stands
+
+-- ---- texts put into a line
+
+-- one behind the other: what was cut off stays cut off
+pub put_behind : (size : ℕ) (line text : List ℕ) → take size (take size line ++ text) ≡ take size (line ++ text)
+put_behind = lines.put_behind
 
 -- ---- what f makes of no byte, and of one in front
 

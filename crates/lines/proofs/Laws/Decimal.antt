@@ -68,6 +68,22 @@ all_found n from rest digits room at after r z l e p =
     let h : take (20 - from) (drop from digits) ≡ drop from digits = take_all (20 - from) (drop from digits) (simp length-drop (omega arith)) in
     rw (e, g, none_left from, ← h) p
 
+-- ---- the front of a number, and its last digit
+
+-- a number of few digits needs no more places
+enough : (k n : ℕ) → n < 10 ^ k → significant (suc k) n ≡ significant k n
+unfolding significant
+enough zero n h = let z : n ≡ 0 = omega arith in rw z
+enough (suc k) n h = rw (enough k (n / 10) (omega (arith, pow-succ' 10 k)))
+
+pub one_digit : (n : ℕ) → n < 10 → decimal_of n ≡ (48 + n % 10) ∷ []
+unfolding decimal_of significant
+one_digit n h = let z : n / 10 ≡ 0 = omega arith in rw z
+
+pub more_digits : (n : ℕ) → 10 ≤ n → n < 2 ^ 64 → decimal_of n ≡ decimal_of (n / 10) ++ ((48 + n % 10) ∷ [])
+unfolding decimal_of significant
+more_digits n h g = simp (ne_eqb (n / 10) 0 (λ z. omega arith), enough 18 (n / 10 / 10) (omega arith))
+
 -- ---- a number of three digits
 
 pub three_digits : (n : ℕ) → 100 ≤ n → n < 1000 → decimal_of n ≡ (48 + n / 10 / 10 % 10) ∷ (48 + n / 10 % 10) ∷ (48 + n % 10) ∷ []

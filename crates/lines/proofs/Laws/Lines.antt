@@ -49,7 +49,7 @@ module _ (room : List ℕ) (at : ℕ) where
 
 -- ---- two texts
 
-le_or_lt : (m n : ℕ) → (m ≤ n) ⊎ (n < m)
+pub le_or_lt : (m n : ℕ) → (m ≤ n) ⊎ (n < m)
 le_or_lt zero n = inl (omega arith)
 le_or_lt (suc m) zero = inr (omega arith)
 le_or_lt (suc m) (suc n) = ⊎_elim (λ p. inl (omega arith)) (λ p. inr (omega arith)) (le_or_lt m n)
@@ -92,7 +92,7 @@ module _ (room : List ℕ) (at : ℕ) (bytes : List ℕ) where
   bytes_all i n after r h g e p = let l : i ≡ length bytes = omega arith in rw (l, take-length) at p
 
 -- and with what f makes of each byte
-spread_append : (f : ℕ → List ℕ) (xs ys : List ℕ) → spread f (xs ++ ys) ≡ spread f xs ++ spread f ys
+pub spread_append : (f : ℕ → List ℕ) (xs ys : List ℕ) → spread f (xs ++ ys) ≡ spread f xs ++ spread f ys
 unfolding spread
 spread_append f [] ys = refl
 spread_append f (x ∷ xs) ys = rw (spread_append f xs ys, append_assoc)

@@ -1,6 +1,6 @@
 -- Names, byte by byte, and their marks. Assumes nothing.
 use mathlib.Core.Path.{◌≡◌, ◌∙◌, refl, sym}
-use mathlib.Core.Bool.{Bool, true, false, true≢false}
+use mathlib.Core.Bool.{Bool, true, false, cond, ◌&&◌, true≢false}
 use mathlib.Core.List.{List, [], ◌∷◌}
 use Prim.Native.Nat.{ℕ, ◌+◌, ◌<◌, ◌≤◌, min}
 use native.Mathlib.Numerals.{add-one}
@@ -9,6 +9,8 @@ use borrow.Author.Tests.{eq-eqb, eqb-false, eqb-true, ne_eqb}
 use lib.Dec.{eqb}
 use lib.ListN.{drop, get_or, length}
 use lib.Seq.{drop-cons, drop-length}
+use Rattle.std.specs.Prelude.{All, Decides}
+use Rattle.std.proofs.lemmas.Bool.Decides.{Decides-by_and, Decides-eqb, same_from_decides}
 use Rattle.lines.specs.Lines.{Put, spread}
 use Rattle.lines.specs.Names.{escape_of, is_plain, letter_of, mark_of}
 use Rattle.lines.proofs.Laws.Lines.{put_join, put_nothing}
@@ -65,6 +67,16 @@ module _ (name : List ℕ) (i : ℕ) where
   pub plain : (n : ℕ) → i ≤ n → n ≤ i → n ≡ length name → is_plain name ≡ is_plain (drop i name) → true ≡ is_plain name
   unfolding is_plain
   plain n h g e p = let l : i ≡ length name = omega arith in sym (p ∙ rw (l, drop-length))
+
+both : (b c : Bool) → cond b c false ≡ (b && c)
+both true c = refl
+both false c = refl
+
+pub plain_each : (name : List ℕ) (r : Bool) → Decides r (All (λ x. letter_of x ≡ 0) name) → r ≡ is_plain name
+unfolding is_plain
+plain_each name r d =
+    same_from_decides r (is_plain name) d
+    (Decides-by_and (λ x. eqb (letter_of x) 0) (λ x. letter_of x ≡ 0) is_plain (λ x. Decides-eqb (letter_of x) 0) refl (λ x xs. both (eqb (letter_of x) 0) (is_plain xs)) name)
 
 module _ (name room : List ℕ) (at r : ℕ) (b : Bool) (e : b ≡ is_plain name) where
   pub unmarked : b ≡ true → r ≡ min at (length room) → Put room at (mark_of name) room r

@@ -65,57 +65,48 @@ takes salt t room z =
 
 -- ---- the answers
 
-abbrev refusal : Fingerprinted → ℕ
-refusal f = f.refusal
-
 count_fields : (q : Parsed) → ((count_of q).refusal ≡ refusal_of q) × ((count_of q).place ≡ place_of q)
 count_fields (accepted rs) = (refl, refl)
 count_fields (refused number place) = (refl, refl)
 
--- what a fingerprint that is refused leaves
+module _ (salt room : ℕ) (q : Parsed) where
+  pub print_2 : (salt ≡ 16 → ⊥) → record { refusal = 2; place = 0 } ≡ fingerprint_answer salt room q
+  unfolding fingerprint_answer
+  print_2 l = rw (ne_eqb salt 16 l)
+
+  module _ (l : salt ≡ 16) where
+    pub print_5 : room < 32 → record { refusal = 5; place = 0 } ≡ fingerprint_answer salt room q
+    unfolding fingerprint_answer
+    print_5 h = rw (eq-eqb salt 16 l, lt-ltb room 32 h)
+
+    -- the table is counted
+    module _ (h : 32 ≤ room) where
+      print_table : (k : Counted) → k ≡ count_of q → record { refusal = k.refusal; place = k.place } ≡ fingerprint_answer salt room q
+      unfolding fingerprint_answer
+      print_table k e = rw (eq-eqb salt 16 l, le-ltb room 32 h, e, (count_fields q).0, (count_fields q).1)
+
+      pub print_refused : (number place : ℕ) → record { refusal = number; place = place; count = 0 } ≡ count_of q
+          → record { refusal = number; place = place } ≡ fingerprint_answer salt room q
+      print_refused number place e = print_table _ e
+
+      pub print_accepted : (n : ℕ) → record { refusal = 0; place = 0; count = n } ≡ count_of q
+          → record { refusal = 0; place = 0 } ≡ fingerprint_answer salt room q
+      print_accepted n e = print_table _ e
+
+-- ---- what a fingerprint leaves, by its answer
+
 pub left_alone : (salt t room : List ℕ) → ((fingerprint_answer (length salt) (length room) (parse t)).refusal ≡ 0 → ⊥) → room ≡ fingerprint_leaves salt t room
 unfolding fingerprint_leaves
 left_alone salt t room n = rw (ne_eqb (fingerprint_answer (length salt) (length room) (parse t)).refusal 0 n)
 
--- by the tests that lead to each answer
 module _ (salt t room : List ℕ) where
-  module _ (l : length salt ≡ 16 → ⊥) where
-    pub print_2 : record { refusal = 2; place = 0 } ≡ fingerprint_answer (length salt) (length room) (parse t)
-    unfolding fingerprint_answer
-    print_2 = rw (ne_eqb (length salt) 16 l)
+  pub left_refused : (number place : ℕ) → record { refusal = number; place = place } ≡ fingerprint_answer (length salt) (length room) (parse t)
+      → (number ≡ 0 → ⊥) → room ≡ fingerprint_leaves salt t room
+  left_refused number place e n = left_alone salt t room (λ z. n (ap (λ (f : Fingerprinted). f.refusal) e ∙ z))
 
-    pub left_2 : room ≡ fingerprint_leaves salt t room
-    left_2 = left_alone salt t room (λ z. omega (arith, z, ap refusal (sym print_2)))
-
-  module _ (l : length salt ≡ 16) where
-    module _ (h : length room < 32) where
-      pub print_5 : record { refusal = 5; place = 0 } ≡ fingerprint_answer (length salt) (length room) (parse t)
-      unfolding fingerprint_answer
-      print_5 = rw (eq-eqb (length salt) 16 l, lt-ltb (length room) 32 h)
-
-      pub left_5 : room ≡ fingerprint_leaves salt t room
-      left_5 = left_alone salt t room (λ z. omega (arith, z, ap refusal (sym print_5)))
-
-    module _ (h : 32 ≤ length room) where
-      -- the table is counted
-      module _ (k : Counted) (e : k ≡ count_of (parse t)) where
-        print_table : record { refusal = k.refusal; place = k.place } ≡ fingerprint_answer (length salt) (length room) (parse t)
-        unfolding fingerprint_answer
-        print_table = rw (eq-eqb (length salt) 16 l, le-ltb (length room) 32 h, e, (count_fields (parse t)).0, (count_fields (parse t)).1)
-
-      module _ (number place : ℕ) (e : record { refusal = number; place = place; count = 0 } ≡ count_of (parse t)) where
-        pub print_refused : record { refusal = number; place = place } ≡ fingerprint_answer (length salt) (length room) (parse t)
-        print_refused = print_table _ e
-
-        pub left_refused : (number ≡ 0 → ⊥) → room ≡ fingerprint_leaves salt t room
-        left_refused n = left_alone salt t room (λ z. n (ap refusal print_refused ∙ z))
-
-      module _ (n : ℕ) (e : record { refusal = 0; place = 0; count = n } ≡ count_of (parse t)) where
-        pub print_accepted : record { refusal = 0; place = 0 } ≡ fingerprint_answer (length salt) (length room) (parse t)
-        print_accepted = print_table _ e
-
-        pub left_digest : (u : List ℕ) → u ≡ digest_leaves DoublePipe 256 salt t room → u ≡ fingerprint_leaves salt t room
-        left_digest u d = d ∙ (takes salt t room (ap refusal (sym print_accepted))).1
+  pub left_digest : record { refusal = 0; place = 0 } ≡ fingerprint_answer (length salt) (length room) (parse t)
+      → (u : List ℕ) → u ≡ digest_leaves DoublePipe 256 salt t room → u ≡ fingerprint_leaves salt t room
+  left_digest e u d = d ∙ (takes salt t room (ap (λ (f : Fingerprinted). f.refusal) (sym e))).1
 
 pub digested : (salt t room : List ℕ) (rs : List Record) → length salt ≡ 16 → 32 ≤ length room → parse t ≡ accepted rs
     → (fingerprint_answer (length salt) (length room) (parse t) ≡ record { refusal = 0; place = 0 })
@@ -125,5 +116,5 @@ digested salt t room rs l h p = (answer, rw answer)
   where
     answer : fingerprint_answer (length salt) (length room) (parse t) ≡ record { refusal = 0; place = 0 }
     answer =
-        sym (print_table salt t room l h (count_of (parse t)) refl)
+        sym (print_table (length salt) (length room) (parse t) l h (count_of (parse t)) refl)
         ∙ ap (λ (q : Parsed). record { refusal = (count_of q).refusal; place = (count_of q).place }) p

@@ -2,4 +2,3 @@ pub mod Modes
 pub mod Lowest
 pub mod Exactly
 pub mod WholeBytes
-pub mod Tables

@@ -13,10 +13,10 @@ use Rattle.echo.specs.Refusals.{Lowest, ◌when◌, counter_too_high, no_salt}
 use Rattle.echo.specs.Routines.{compress_leaves, compress_refusal, compress_wide_leaves, compress_wide_refusal}
 use Rattle.echo.specs.Session.{admitted, bit_limit, digest_bits_leaves, digest_bits_refusal, digest_leaves, digest_refusal, limit, other_size, set_below}
 use Rattle.echo.proofs.Theorems as echo
+use Rattle.steering.specs.Answers.{Found}
 use Rattle.steering.specs.Numbers.{AreBytes}
 use Rattle.steering.specs.Reading.{number_of, read_at}
 use Rattle.steering.specs.Writing.{write_body_answer, write_body_leaves, write_body_refusal}
-use Rattle.steering.specs.declared.reading.Reading.TheVariants.{Found}
 use Rattle.steering.specs.declared.records.Record.{Record}
 use Rattle.steering.proofs.Theorems.{a_body_is_written_as_its_record, a_record_is_what_stands_there, a_record_written_back_changes_nothing}
 use Rattle.steering.proofs.Theorems.{reading_a_body_that_was_written}

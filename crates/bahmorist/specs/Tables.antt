@@ -1,8 +1,7 @@
 -- What a reading at a place comes to, as numbers, for C. Assumes nothing.
 use Rattle.std.specs.Prelude.{ℕ}
+use Rattle.steering.specs.Answers.{End, Found, Reading, Refused}
 use Rattle.steering.specs.Records.{kind_of}
-use Rattle.steering.specs.declared.reading.Reading.{Reading}
-use Rattle.steering.specs.declared.reading.Reading.TheVariants.{End, Found, Refused}
 
 -- the record's kind byte; 0 at the end and with a refusal
 abbrev pub kind_read : Reading → ℕ

@@ -21,7 +21,6 @@ ghost use Rattle.bahmorist.specs.Modes.{compress_in_leaves, compress_in_refusal,
 
 use echo::Mode;
 use modes::{mode_of, no_mode};
-use steering::Reading;
 
 // The digest of a message at the front of `out`, and 0; or a refusal by 1, 2, 4 or 5.
 #[unsafe(no_mangle)]
@@ -189,9 +188,16 @@ pub extern "C" fn bahmorist_fingerprint(
     ensures left { out.new ≡ fingerprint_leaves salt.now table.now out.old }
     ensures place { place.new ≡ (fingerprint_answer (length salt.now) (length out.old) (parse table.now)).place }
 {
-    let answer = steering::fingerprint(salt, table, out);
-    *place = answer.place as u64;
-    answer.refusal
+    match steering::fingerprint(salt, table, out) {
+        Ok(()) => {
+            *place = 0;
+            0
+        }
+        Err(refusal) => {
+            *place = refusal.place() as u64;
+            refusal.number()
+        }
+    }
 }
 
 // What stands at a place of a table, and 0; or a refusal by 6, 8, 9 or 10. `kind` and `next` are written on every call: the record's kind byte and the place
@@ -203,23 +209,20 @@ pub extern "C" fn bahmorist_read_at(table: &[u8], place: u64, kind: &mut u8, nex
     ensures next { next.new ≡ next_read place (read_at table.now place) }
 {
     match steering::read_at(table, place as usize) {
-        Reading::Found {
-            record,
-            next: behind,
-        } => {
+        Ok(Some((record, behind))) => {
             *kind = steering::kind_of(record);
             *next = behind as u64;
             0
         }
-        Reading::End => {
+        Ok(None) => {
             *kind = 0;
             *next = place;
             0
         }
-        Reading::Refused { number, place: at } => {
+        Err(refusal) => {
             *kind = 0;
-            *next = at as u64;
-            number
+            *next = refusal.place() as u64;
+            refusal.number()
         }
     }
 }
@@ -232,10 +235,18 @@ pub extern "C" fn bahmorist_count(table: &[u8], count: &mut u64, place: &mut u64
     ensures count { count.new ≡ (count_of (parse table.now)).count }
     ensures place { place.new ≡ (count_of (parse table.now)).place }
 {
-    let counted = steering::count(table);
-    *count = counted.count as u64;
-    *place = counted.place as u64;
-    counted.refusal
+    match steering::count(table) {
+        Ok(records) => {
+            *place = 0;
+            *count = records as u64;
+            0
+        }
+        Err(refused) => {
+            *count = 0;
+            *place = refused.place() as u64;
+            refused.number()
+        }
+    }
 }
 
 // Puts a record at a place of the room, its kind byte first, and 0; or a refusal by 5, 9 or 10. `next` is written on every call: the place behind the
@@ -252,9 +263,16 @@ pub extern "C" fn bahmorist_write_at(
     ensures left { room.new ≡ write_body_leaves room.old place kind body.now }
     ensures next { next.new ≡ (write_body_answer (length room.old) place kind (length body.now)).next }
 {
-    let written = steering::write_body_at(room, place as usize, kind, body);
-    *next = written.next as u64;
-    written.refusal
+    match steering::write_body_at(room, place as usize, kind, body) {
+        Ok(after) => {
+            *next = after as u64;
+            0
+        }
+        Err(refusal) => {
+            *next = 0;
+            refusal.number()
+        }
+    }
 }
 
 // The tag of a message under a key at the front of `out`, and 0; or a refusal by 1, 2, 4 or 5.

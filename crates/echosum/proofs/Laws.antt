@@ -1,4 +1,3 @@
-pub mod Bytes
 pub mod Hexadecimal
 pub mod Listed
 pub mod Names

@@ -1,10 +1,10 @@
 -- Names in a list, some of them escaped as `lines` escapes them. Assumes nothing.
-use Rattle.std.specs.Prelude.{ℕ, Bool, true, false, cond, not, List, [], ◌∷◌, ◌++◌, eqb, length}
+use Rattle.std.specs.Prelude.{ℕ, Bool, true, false, cond, not, List, [], ◌∷◌, ◌++◌, eqb, length, Option, None, Some, is_none, unwrap_or}
 use Rattle.echosum.specs.Bytes.{holds_of}
 
--- the byte that a letter behind a backslash stands for: `n` a line end, `r` a carriage return, a backslash a backslash; 0 for any other byte
-unfoldable pub meant_by : ℕ → ℕ
-meant_by y = cond (eqb y 110) 10 (cond (eqb y 114) 13 (cond (eqb y 92) 92 0))
+-- the byte that a letter behind a backslash stands for: `n` a line end, `r` a carriage return, a backslash a backslash; none for any other byte
+unfoldable pub meant_by : ℕ → Option ℕ
+meant_by y = cond (eqb y 110) (Some 10) (cond (eqb y 114) (Some 13) (cond (eqb y 92) (Some 92) None))
 
 -- ---- from the left; a flag tells whether the byte before was a backslash that begins an escape
 
@@ -14,11 +14,11 @@ opens_at opened x = cond opened false (eqb x 92)
 
 -- whether this byte is no letter, though an escape begins before it
 abbrev pub fault_at : Bool → ℕ → Bool
-fault_at opened x = cond opened (eqb (meant_by x) 0) false
+fault_at opened x = cond opened (is_none (meant_by x)) false
 
--- what this byte leaves of the text when escapes are undone
+-- what this byte leaves of the text when escapes are undone; a zero byte where it is no letter
 abbrev pub undone_at : Bool → ℕ → List ℕ
-undone_at opened x = cond opened (meant_by x ∷ []) (cond (eqb x 92) [] (x ∷ []))
+undone_at opened x = cond opened (unwrap_or (meant_by x) 0 ∷ []) (cond (eqb x 92) [] (x ∷ []))
 
 unfoldable pub are_escapes_from : Bool → List ℕ → Bool
 are_escapes_from opened [] = not opened

@@ -4,17 +4,18 @@ use Rattle.lines.specs.Decimal.{decimal_of}
 use Rattle.lines.specs.Hexadecimal.{digits_of}
 use Rattle.lines.specs.Lines.{spread}
 use Rattle.lines.specs.Names.{escape_of, mark_of}
+use Rattle.echo.specs.declared.mode.Mode.{Mode}
 use Rattle.echosum.specs.declared.style.Style.{Style}
-use Rattle.echosum.specs.Listed.{begins, closes, double, opens, single}
+use Rattle.echosum.specs.Listed.{begins, closes, mode_text, opens}
 
 -- what a tag names: `ECHO-`, the bits, the mode between dashes, the salt, a space and a bracket
-unfoldable pub tag_of : ℕ → Bool → List ℕ → List ℕ
-tag_of bits one salt = begins ++ (decimal_of bits ++ (cond one single double ++ (spread digits_of salt ++ opens)))
+unfoldable pub tag_of : ℕ → Mode → List ℕ → List ℕ
+tag_of bits mode salt = begins ++ (decimal_of bits ++ (mode_text mode ++ (spread digits_of salt ++ opens)))
 
 -- a line with a tag, without its line end; a backslash stands in front where the name is escaped
-unfoldable pub tagged_line : ℕ → Bool → List ℕ → List ℕ → List ℕ → List ℕ
-tagged_line bits one salt digest name =
-    mark_of name ++ (tag_of bits one salt ++ (spread escape_of name ++ (closes ++ spread digits_of digest)))
+unfoldable pub tagged_line : ℕ → Mode → List ℕ → List ℕ → List ℕ → List ℕ
+tagged_line bits mode salt digest name =
+    mark_of name ++ (tag_of bits mode salt ++ (spread escape_of name ++ (closes ++ spread digits_of digest)))
 
 -- a line without a tag and without its line end
 unfoldable pub plain_line : List ℕ → List ℕ → List ℕ
@@ -24,7 +25,7 @@ plain_line digest name = mark_of name ++ (spread digits_of digest ++ (32 ∷ 32 
 
 -- in front of the name: the tag, or the digest and two spaces
 unfoldable pub front_of : Style → List ℕ → List ℕ
-front_of style digest = cond style.is_tagged (tag_of style.bits style.is_single style.salt) (spread digits_of digest ++ (32 ∷ 32 ∷ []))
+front_of style digest = cond style.is_tagged (tag_of style.bits style.mode style.salt) (spread digits_of digest ++ (32 ∷ 32 ∷ []))
 
 -- a line end, or a zero byte
 unfoldable pub end_of : Bool → List ℕ

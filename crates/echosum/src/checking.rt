@@ -1,12 +1,11 @@
 // A line of a list: the file that it names, held against the digest that it has.
 ghost use Rattle.std.specs.Prelude.{◌≤◌, length};
 
-use super::bytes::{holds, is_same};
 use super::listed::{Listed, listed_in};
 use super::names::put_unescaped;
-use super::options::Options;
-use super::saying::say_why;
-use super::summing::{digest_named, is_dash, mode_of};
+use super::options::{Options, Printed};
+use super::printing::{Unwritten, print};
+use super::summing::{NoDigest, digest_named, is_dash};
 use echo::Session;
 use lines::{put, put_named};
 
@@ -14,9 +13,7 @@ use lines::{put, put_named};
 #[derive(Clone, Copy)]
 pub(crate) struct Tally {
     // whether the list comes from standard input, which no line of it can name then
-    pub is_input: bool,
-    // whether standard output took every line
-    pub is_written: bool,
+    is_input: bool,
     // whether some line was properly formatted, and some file matched
     pub has_proper: bool,
     pub has_match: bool,
@@ -25,15 +22,10 @@ pub(crate) struct Tally {
     pub mismatched: u64,
 }
 
-fn one_more(count: u64) -> u64 {
-    if count < u64::MAX { count + 1 } else { count }
-}
-
 impl Tally {
     pub fn begun(is_input: bool) -> Tally {
         Tally {
-            is_input: is_input,
-            is_written: true,
+            is_input,
             has_proper: false,
             has_match: false,
             improper: 0,
@@ -42,88 +34,65 @@ impl Tally {
         }
     }
 
-    pub fn with_improper(mut self) -> Tally {
-        self.improper = one_more(self.improper);
-        self
-    }
-
-    fn with_unread(mut self, rt: &HostRuntime, name: &[u8], options: Options) -> Tally {
-        self.unread = one_more(self.unread);
-        if options.is_silent {
-            return self;
-        }
-        self.told(rt, name, b": FAILED open or read\n")
-    }
-
-    fn with_mismatch(mut self, rt: &HostRuntime, name: &[u8], options: Options) -> Tally {
-        self.mismatched = one_more(self.mismatched);
-        if options.is_silent {
-            return self;
-        }
-        self.told(rt, name, b": FAILED\n")
-    }
-
-    fn with_match(mut self, rt: &HostRuntime, name: &[u8], options: Options) -> Tally {
-        self.has_match = true;
-        if options.is_silent {
-            return self;
-        }
-        if options.is_quiet {
-            return self;
-        }
-        self.told(rt, name, b": OK\n")
-    }
-
-    // Prints what came of a file.
-    fn told(mut self, rt: &HostRuntime, name: &[u8], what: &[u8]) -> Tally {
-        if let Err(error) = print_result(rt, name, what) {
-            say_why(rt, b"standard output", error);
-            self.is_written = false;
-        }
-        self
+    pub fn count_improper(&mut self) {
+        self.improper = self.improper.saturating_add(1);
     }
 
     // A line, without its line end and with something in it.
-    pub fn take_line(self, rt: &HostRuntime, line: &[u8], options: Options) -> Tally {
-        let listed = listed_in(line, options.terms());
-        if !listed.is_good {
-            return self.with_improper();
-        }
-        let from = listed.from;
-        let to = listed.to;
+    pub fn take_line(
+        &mut self,
+        rt: &HostRuntime,
+        line: &[u8],
+        options: &Options,
+    ) -> Result<(), Unwritten> {
+        let Some(listed) = listed_in(line, &options.terms()) else {
+            self.count_improper();
+            return Ok(());
+        };
         let mut name = [0u8; 8448];
-        let n = put_listed(&mut name, &line[from..to], listed.is_escaped);
-        let expected = listed.digest;
-        self.take_file(rt, &name[0..n], listed, expected, options)
+        let n = put_listed(&mut name, &line[listed.from..listed.to], listed.is_escaped);
+        self.take_file(rt, &name[..n], listed, options)
     }
 
     fn take_file(
-        mut self,
+        &mut self,
         rt: &HostRuntime,
         name: &[u8],
         listed: Listed,
-        expected: [u8; 64],
-        options: Options,
-    ) -> Tally {
+        options: &Options,
+    ) -> Result<(), Unwritten> {
         if self.is_input && is_dash(name) {
-            return self.with_improper();
+            self.count_improper();
+            return Ok(());
         }
         self.has_proper = true;
-        let salt = listed.salt;
-        let opening = Session::open(mode_of(listed.is_single), listed.bits, &salt);
-        let session = opening.session;
-        let summed = digest_named(rt, session, name, options.passes_missing);
-        if summed.is_missing {
-            return self;
+        let session = Session::open(listed.mode, listed.bits, &listed.salt).session;
+        match digest_named(rt, session, name, options.passes_missing) {
+            Ok(digest) if digest == listed.digest => {
+                self.has_match = true;
+                match options.printed {
+                    Printed::All => print_result(rt, name, b": OK\n"),
+                    _ => Ok(()),
+                }
+            }
+            Ok(_) => {
+                self.mismatched = self.mismatched.saturating_add(1);
+                print_failure(rt, name, b": FAILED\n", options)
+            }
+            Err(NoDigest::Missing) => Ok(()),
+            Err(NoDigest::Unread) => {
+                self.unread = self.unread.saturating_add(1);
+                print_failure(rt, name, b": FAILED open or read\n", options)
+            }
         }
-        if !summed.is_whole {
-            return self.with_unread(rt, name, options);
-        }
-        let found = summed.digest;
-        if is_same(&expected, &found) {
-            return self.with_match(rt, name, options);
-        }
-        self.with_mismatch(rt, name, options)
+    }
+
+    // Whether some line was properly formatted and every file that it names is there and matches, and with --strict every line was.
+    pub fn is_verified(&self, is_strict: bool) -> bool {
+        self.has_match
+            && self.unread == 0
+            && self.mismatched == 0
+            && (self.improper == 0 || !is_strict)
     }
 }
 
@@ -137,18 +106,30 @@ fn put_listed(room: &mut [u8], text: &[u8], is_escaped: bool) -> usize
     put(room, 0, text)
 }
 
-// A name is escaped where it has a line end, as `sha256sum -c` does, and else printed as it is. A room holds a name as long as a line of
-// a list, each byte of it escaped, and what stands behind it.
-fn print_result(rt: &HostRuntime, name: &[u8], what: &[u8]) -> Result<(), i32> {
+fn print_failure(
+    rt: &HostRuntime,
+    name: &[u8],
+    what: &[u8],
+    options: &Options,
+) -> Result<(), Unwritten> {
+    match options.printed {
+        Printed::None => Ok(()),
+        _ => print_result(rt, name, what),
+    }
+}
+
+// Prints what came of a file. A name is escaped where it has a line end, as `sha256sum -c` does, and else printed as it is. A room holds a name
+// as long as a line of a list, each byte of it escaped, and what stands behind it.
+fn print_result(rt: &HostRuntime, name: &[u8], what: &[u8]) -> Result<(), Unwritten> {
     let mut line = [0u8; 17152];
     let end = put_result(&mut line, name, what);
-    host::print(rt, &line[0..end])
+    print(rt, &line[..end])
 }
 
 fn put_result(room: &mut [u8], name: &[u8], what: &[u8]) -> usize
     ensures { result ≤ length room.new }
 {
-    if holds(name, b'\n') {
+    if name.contains(&b'\n') {
         return put_named(room, 0, b"", name, what);
     }
     let named = put(room, 0, name);

@@ -1,22 +1,11 @@
 // What is printed where help or the version is asked for.
-use super::saying::say_why;
+use super::printing::{Unwritten, print};
 
-// Answers whether it was written, and says it where not.
-fn print(rt: &HostRuntime, text: &[u8]) -> bool {
-    match host::print(rt, text) {
-        Ok(()) => true,
-        Err(error) => {
-            say_why(rt, b"standard output", error);
-            false
-        }
-    }
-}
-
-pub(crate) fn print_version(rt: &HostRuntime) -> bool {
+pub(crate) fn print_version(rt: &HostRuntime) -> Result<(), Unwritten> {
     print(rt, b"echosum (Bahmorist) 0.8.0\n")
 }
 
-pub(crate) fn print_help(rt: &HostRuntime) -> bool {
+pub(crate) fn print_help(rt: &HostRuntime) -> Result<(), Unwritten> {
     print(
         rt,
         b"\

@@ -1,45 +1,37 @@
 // Lists of digests, read line by line and checked.
-ghost use Rattle.std.specs.Prelude.{◌≤◌, length};
-
 use super::checking::Tally;
-use super::options::Options;
+use super::options::{Options, Printed};
+use super::printing::Unwritten;
 use super::saying::{
     say_endless, say_improper, say_mismatched, say_no_lines, say_none_verified, say_unread, say_why,
 };
-use super::summing::{Outcome, is_dash};
+use super::summing::is_dash;
 use host::Source;
 
 // A line that goes on for longer ends the reading, since it may never end.
 const LONGEST: usize = 1048576;
 
-// A list that is being read.
+// Why a list is not taken to its end, which is said.
 #[derive(Clone, Copy)]
+enum Stopped {
+    Unread,
+    Unwritten,
+}
+
+impl From<Unwritten> for Stopped {
+    fn from(_unwritten: Unwritten) -> Stopped {
+        Stopped::Unwritten
+    }
+}
+
+// A list that is being read.
+#[derive(Drop)]
 struct Reading {
-    // the bytes of the line at hand, those that found no room among them
+    // The line at hand. The room holds a tagged line with a name of 4,096 bytes, each of them escaped, and the length counts the bytes that
+    // found no room too.
+    line: [u8; 8448],
     length: usize,
-    goes_on: bool,
-    // whether a line was too long, or the list could not be read
-    is_endless: bool,
-    is_broken: bool,
     tally: Tally,
-}
-
-// The bytes of a line without a carriage return at its end.
-fn without_return(line: &[u8]) -> usize
-    ensures { result ≤ length line.now }
-{
-    let n = line.len();
-    if n == 0 {
-        return 0;
-    }
-    if line[n - 1] == b'\r' { n - 1 } else { n }
-}
-
-// Puts a byte at its place, where there is room for it.
-fn keep(line: &mut [u8], at: usize, byte: u8) {
-    if at < line.len() {
-        line[at] = byte;
-    }
 }
 
 // A whole line, which may be empty, a comment, or longer than its room.
@@ -47,133 +39,111 @@ fn take_line(
     rt: &HostRuntime,
     line: &[u8],
     length: usize,
-    tally: Tally,
-    options: Options,
-) -> Tally {
-    if length == 0 {
-        return tally;
+    tally: &mut Tally,
+    options: &Options,
+) -> Result<(), Unwritten> {
+    if length == 0 || line.starts_with(b"#") {
+        return Ok(());
     }
-    if line.len() == 0 {
-        return tally;
+    let Some(text) = line.get(..length) else {
+        tally.count_improper();
+        return Ok(());
+    };
+    match text {
+        [b'\r'] => Ok(()),
+        [text @ .., b'\r'] => tally.take_line(rt, text, options),
+        _ => tally.take_line(rt, text, options),
     }
-    if line[0] == b'#' {
-        return tally;
-    }
-    if line.len() < length {
-        return tally.with_improper();
-    }
-    let text = &line[0..length];
-    let end = without_return(text);
-    if end == 0 {
-        return tally;
-    }
-    tally.take_line(rt, &text[0..end], options)
 }
 
 impl Reading {
     fn begun(is_input: bool) -> Reading {
         Reading {
+            line: [0; 8448],
             length: 0,
-            goes_on: true,
-            is_endless: false,
-            is_broken: false,
             tally: Tally::begun(is_input),
         }
     }
 
     // The line at hand is whole.
-    fn end_line(mut self, rt: &HostRuntime, line: &[u8], options: Options) -> Reading {
-        let tally = take_line(rt, line, self.length, self.tally, options);
+    fn end_line(&mut self, rt: &HostRuntime, options: &Options) -> Result<(), Unwritten> {
+        let length = self.length;
         self.length = 0;
-        self.goes_on = tally.is_written;
-        self.tally = tally;
-        self
+        take_line(rt, &self.line, length, &mut self.tally, options)
     }
 
     fn take_byte(
-        mut self,
+        &mut self,
         rt: &HostRuntime,
         byte: u8,
-        line: &mut [u8],
-        options: Options,
-    ) -> Reading {
+        list: &[u8],
+        options: &Options,
+    ) -> Result<(), Stopped> {
         if byte == b'\n' {
-            return self.end_line(rt, line, options);
+            self.end_line(rt, options)?;
+            return Ok(());
+        }
+        if LONGEST <= self.length {
+            say_endless(rt, list);
+            return Err(Stopped::Unread);
         }
         let at = self.length;
-        if LONGEST <= at {
-            self.is_endless = true;
-            self.goes_on = false;
-            return self;
+        if at < self.line.len() {
+            self.line[at] = byte;
         }
-        keep(line, at, byte);
         self.length = at + 1;
-        self
+        Ok(())
     }
 
-    fn take_bytes(
-        self,
-        rt: &HostRuntime,
-        bytes: &[u8],
-        line: &mut [u8],
-        options: Options,
-    ) -> Reading {
-        let mut reading = self;
-        let mut i = 0;
-        while i < bytes.len() && reading.goes_on {
-            reading = reading.take_byte(rt, bytes[i], line, options);
-            i += 1;
-        }
-        reading
-    }
-
-    // Reads once. A last line without a line end is a line too.
+    // Reads once, and answers whether there may be more. A last line without a line end is a line too.
     fn read_some(
-        mut self,
+        &mut self,
         rt: &HostRuntime,
         from: &mut Source,
         list: &[u8],
-        line: &mut [u8],
-        options: Options,
-    ) -> Reading {
+        options: &Options,
+    ) -> Result<bool, Stopped> {
         let mut room = [0u8; 65536];
         let n = match host::read(from, &mut room) {
             Ok(n) => n,
             Err(error) => {
                 say_why(rt, list, error);
-                self.is_broken = true;
-                self.goes_on = false;
-                return self;
+                return Err(Stopped::Unread);
             }
         };
         if n == 0 {
-            self = self.end_line(rt, line, options);
-            self.goes_on = false;
-            return self;
+            self.end_line(rt, options)?;
+            return Ok(false);
         }
-        self.take_bytes(rt, &room[..n], line, options)
-    }
-
-    // Says what was wrong with the list, and answers how it went.
-    fn conclude(self, rt: &HostRuntime, list: &[u8], options: Options) -> Outcome {
-        let tally = self.tally;
-        if self.is_endless {
-            say_endless(rt, list);
+        for byte in &room[..n] {
+            self.take_byte(rt, *byte, list, options)?;
         }
-        if self.is_endless || self.is_broken || !tally.is_written {
-            return Outcome {
-                goes_on: tally.is_written,
-                is_good: false,
-            };
-        }
-        conclude_tally(rt, tally, list, options)
+        Ok(true)
     }
 }
 
-fn conclude_tally(rt: &HostRuntime, tally: Tally, list: &[u8], options: Options) -> Outcome {
+// Reads to the end of a list. Nothing says that a list ends, so the turns are counted, up to a number that no run comes to.
+fn read_all(
+    rt: &HostRuntime,
+    from: &mut Source,
+    list: &[u8],
+    is_input: bool,
+    options: &Options,
+) -> Result<Tally, Stopped> {
+    let mut reading = Reading::begun(is_input);
+    for _ in 0..u64::MAX {
+        if !reading.read_some(rt, from, list, options)? {
+            break;
+        }
+    }
+    Ok(reading.tally)
+}
+
+// Says what was wrong with a list, and answers whether all is well.
+fn conclude(rt: &HostRuntime, tally: &Tally, list: &[u8], options: &Options) -> bool {
     if !tally.has_proper {
         say_no_lines(rt, list);
-    } else if !options.is_silent {
+    } else if !matches!(options.printed, Printed::None) {
         say_improper(rt, tally.improper);
         say_unread(rt, tally.unread);
         say_mismatched(rt, tally.mismatched);
@@ -181,62 +151,43 @@ fn conclude_tally(rt: &HostRuntime, tally: Tally, list: &[u8], options: Options)
             say_none_verified(rt, list);
         }
     }
-    Outcome {
-        goes_on: true,
-        is_good: is_verified(tally, options.is_strict),
-    }
+    tally.is_verified(options.is_strict)
 }
 
-// Whether some line was properly formatted and every file that it names is there and matches, and with --strict every line was.
-fn is_verified(tally: Tally, is_strict: bool) -> bool {
-    if is_strict && tally.improper != 0 {
-        return false;
-    }
-    if tally.unread != 0 {
-        return false;
-    }
-    if tally.mismatched != 0 {
-        return false;
-    }
-    tally.has_match
-}
-
-// Nothing says that a list ends, so the turns are counted down, from a number that no run uses up. A room holds a tagged line with a name of
-// 4,096 bytes, each of them escaped.
 fn check_all(
     rt: &HostRuntime,
     from: &mut Source,
     list: &[u8],
     is_input: bool,
-    options: Options,
-) -> Outcome {
-    let mut line = [0u8; 8448];
-    let mut reading = Reading::begun(is_input);
-    let mut turns = u64::MAX;
-    while 0 < turns && reading.goes_on {
-        reading = reading.read_some(rt, from, list, &mut line, options);
-        turns -= 1;
+    options: &Options,
+) -> Result<bool, Unwritten> {
+    match read_all(rt, from, list, is_input, options) {
+        Ok(tally) => Ok(conclude(rt, &tally, list, options)),
+        Err(Stopped::Unread) => Ok(false),
+        Err(Stopped::Unwritten) => Err(Unwritten),
     }
-    reading.conclude(rt, list, options)
 }
 
-// Checks the lines of a list. A dash is standard input.
-pub(crate) fn check_list(rt: &HostRuntime, list: &[u8], options: Options) -> Outcome {
+// Checks the lines of a list, and answers whether all is well. A dash is standard input.
+pub(crate) fn check_list(
+    rt: &HostRuntime,
+    list: &[u8],
+    options: &Options,
+) -> Result<bool, Unwritten> {
     if is_dash(list) {
-        let mut from = host::standard_input(rt);
-        return check_all(rt, &mut from, b"standard input", true, options);
+        return check_all(
+            rt,
+            &mut host::standard_input(rt),
+            b"standard input",
+            true,
+            options,
+        );
     }
     match host::open(rt, list) {
-        Ok(file) => {
-            let mut from = file;
-            check_all(rt, &mut from, list, false, options)
-        }
+        Ok(mut from) => check_all(rt, &mut from, list, false, options),
         Err(error) => {
             say_why(rt, list, error);
-            Outcome {
-                goes_on: true,
-                is_good: false,
-            }
+            Ok(false)
         }
     }
 }

@@ -3,74 +3,62 @@ ghost use Rattle.std.specs.Prelude.{◌≡◌};
 ghost use Rattle.lines.specs.Lines.{Put};
 ghost use Rattle.echosum.specs.Names.{are_escapes, fault_at, is_name, meant_by, opens_at, undone_at, unescaped};
 
-use super::bytes::holds;
 use lines::put;
 
-// The byte that a letter behind a backslash stands for, and 0 for a byte that is no such letter.
-fn meant(letter: u8) -> u8
+// The byte that a letter behind a backslash stands for.
+#[tactic(auto, unfolding(crate::specs::Names::meant_by))]
+fn meant(letter: u8) -> Option<u8>
     ensures { result ≡ meant_by letter }
 {
-    if letter == b'n' {
-        return b'\n';
+    match letter {
+        b'n' => Some(b'\n'),
+        b'r' => Some(b'\r'),
+        b'\\' => Some(b'\\'),
+        _ => None,
     }
-    if letter == b'r' {
-        return b'\r';
-    }
-    if letter == b'\\' {
-        return b'\\';
-    }
-    0
 }
 
 // Whether a byte begins an escape. `is_open` tells that the byte before it did.
 fn opens(is_open: bool, byte: u8) -> bool
     ensures { result ≡ opens_at is_open byte }
 {
-    if is_open {
-        return false;
-    }
-    byte == b'\\'
+    !is_open && byte == b'\\'
 }
 
 // Whether a byte is no letter, where the one before it begins an escape.
 fn is_fault(is_open: bool, byte: u8) -> bool
     ensures { result ≡ fault_at is_open byte }
 {
-    if is_open {
-        return meant(byte) == 0;
-    }
-    false
+    is_open && meant(byte).is_none()
 }
 
 // Whether every backslash stands before a letter that it escapes, or is one.
+#[tactic(auto, unfolding(crate::specs::Names::are_escapes, crate::specs::Names::are_escapes_from))]
 fn are_escapes(text: &[u8]) -> bool
     ensures { result ≡ are_escapes text.now }
 {
     let mut is_open = false;
-    for i in 0..text.len() {
-        let byte = text[i];
-        if is_fault(is_open, byte) {
+    for byte in text {
+        if is_fault(is_open, *byte) {
             return false;
         }
-        is_open = opens(is_open, byte);
+        is_open = opens(is_open, *byte);
     }
     !is_open
 }
 
 // Whether a text can stand for the name of a file: there is some, no byte of it is 0, and its escapes can be undone where it has any.
+#[tactic(auto, unfolding(crate::specs::Names::is_name))]
 pub(crate) fn is_name(text: &[u8], is_escaped: bool) -> bool
     ensures { result ≡ is_name is_escaped text.now }
 {
-    if text.len() == 0 {
+    if text.is_empty() {
         return false;
     }
-    if holds(text, 0) {
+    if text.contains(&0) {
         return false;
     }
-    if is_escaped {
-        return are_escapes(text);
-    }
-    true
+    !is_escaped || are_escapes(text)
 }
 
 // One byte of a text whose escapes are undone.
@@ -78,15 +66,12 @@ fn put_undone(room: &mut [u8], at: usize, is_open: bool, byte: u8) -> usize
     ensures { Put room.old at (undone_at is_open byte) room.new result }
 {
     if is_open {
-        let one = [meant(byte)];
-        return put(room, at, &one);
+        return put(room, at, &[meant(byte).unwrap_or(0)]);
     }
     if byte == b'\\' {
-        let none = [0u8; 0];
-        return put(room, at, &none);
+        return put(room, at, &[]);
     }
-    let one = [byte];
-    put(room, at, &one)
+    put(room, at, &[byte])
 }
 
 // The name that an escaped one stands for, at the front of the room. Answers its end.
@@ -95,10 +80,9 @@ pub(crate) fn put_unescaped(room: &mut [u8], text: &[u8]) -> usize
 {
     let mut end = 0;
     let mut is_open = false;
-    for i in 0..text.len() {
-        let byte = text[i];
-        end = put_undone(room, end, is_open, byte);
-        is_open = opens(is_open, byte);
+    for byte in text {
+        end = put_undone(room, end, is_open, *byte);
+        is_open = opens(is_open, *byte);
     }
     end
 }

@@ -1,274 +1,178 @@
 // The command line, taken word by word.
-use super::bytes::is_same;
 use super::listed::Terms;
 use super::style::Style;
-use super::words::{begins_with, is_dashed, is_flag};
 use digits::{number_in, salt_in};
+use echo::Mode;
 
-// What the words so far ask for, and what the next one is.
+// A word that can't be read.
+#[derive(Clone, Copy)]
+pub(crate) struct BadWord;
+
+// What a word that can be read is.
+#[derive(Clone, Copy)]
+pub(crate) enum Word {
+    Option,
+    File,
+    Help,
+    Version,
+}
+
+// What the word behind a flag is.
+#[derive(Clone, Copy)]
+pub(crate) enum Value {
+    Bits,
+    Salt,
+}
+
+// Which results of a check are printed.
+#[derive(Clone, Copy)]
+pub(crate) enum Printed {
+    All,
+    Failures,
+    None,
+}
+
+// What the words so far ask for.
 #[derive(Clone, Copy)]
 pub(crate) struct Options {
-    // whether single-pipe is asked for
-    pub is_single: bool,
-    // the bits, and whether any were given
-    pub bits: u64,
-    pub has_bits: bool,
+    pub mode: Mode,
+    pub bits: Option<u64>,
     pub salt: [u8; 16],
     // how lines are written
     pub is_tagged: bool,
     pub is_zero_ended: bool,
     // whether lists are checked, and how
     pub asks_check: bool,
-    pub is_quiet: bool,
-    pub is_silent: bool,
+    pub printed: Printed,
     pub is_strict: bool,
     pub passes_missing: bool,
-    // where the verdict goes, or -1
-    pub verdict: i32,
-    // whether the last word was a file, and whether any was
-    pub is_file: bool,
+    // the descriptor that the verdict goes to
+    pub verdict: Option<i32>,
+    // whether any word was a file
     pub has_file: bool,
-    // whether the next word belongs to the flag before it
-    pub wants_bits: bool,
-    pub wants_salt: bool,
+    // what the next word is, where it belongs to the flag before it
+    pub awaited: Option<Value>,
     // whether `--` was there: all words behind it are files
     is_ended: bool,
-    // whether the last word was bad, or asked for help or the version; each ends the taking
-    pub is_bad: bool,
-    pub asks_help: bool,
-    pub asks_version: bool,
-    pub goes_on: bool,
 }
 
 pub(crate) fn defaults() -> Options {
     Options {
-        is_single: false,
-        bits: 256,
-        has_bits: false,
+        mode: Mode::DoublePipe,
+        bits: None,
         salt: [0; 16],
         is_tagged: false,
         is_zero_ended: false,
         asks_check: false,
-        is_quiet: false,
-        is_silent: false,
+        printed: Printed::All,
         is_strict: false,
         passes_missing: false,
-        verdict: -1,
-        is_file: false,
+        verdict: None,
         has_file: false,
-        wants_bits: false,
-        wants_salt: false,
+        awaited: None,
         is_ended: false,
-        is_bad: false,
-        asks_help: false,
-        asks_version: false,
-        goes_on: true,
     }
 }
 
 impl Options {
-    // The options with one word more.
-    pub fn take(mut self, word: &[u8]) -> Options {
-        self.is_file = false;
-        if self.wants_bits {
-            return self.take_bits(word);
+    // Takes one word more.
+    pub fn take(&mut self, word: &[u8]) -> Result<Word, BadWord> {
+        match self.awaited.take() {
+            Some(Value::Bits) => self.take_bits(word),
+            Some(Value::Salt) => self.take_salt(word),
+            None => self.take_word(word),
         }
-        if self.wants_salt {
-            return self.take_salt(word);
-        }
-        if self.is_ended || !is_dashed(word) {
-            self.is_file = true;
-            self.has_file = true;
-            return self;
-        }
-        if begins_with(word, b"--") {
-            return self.take_long(word);
-        }
-        self.take_flag(word)
     }
 
-    fn take_bits(mut self, word: &[u8]) -> Options {
-        self.wants_bits = false;
-        self.has_bits = true;
-        let given = number_in(word);
-        if !given.is_good {
-            self = self.with_bad_word();
-        }
-        self.bits = given.value;
-        self
+    fn take_bits(&mut self, word: &[u8]) -> Result<Word, BadWord> {
+        self.bits = Some(number_in(word).ok_or(BadWord)?);
+        Ok(Word::Option)
     }
 
-    fn take_salt(mut self, word: &[u8]) -> Options {
-        self.wants_salt = false;
-        let given = salt_in(word);
-        if !given.is_good {
-            self = self.with_bad_word();
+    fn take_salt(&mut self, word: &[u8]) -> Result<Word, BadWord> {
+        self.salt = salt_in(word).ok_or(BadWord)?;
+        Ok(Word::Option)
+    }
+
+    // A word that is no value. A dash alone is a file's name.
+    fn take_word(&mut self, word: &[u8]) -> Result<Word, BadWord> {
+        match word {
+            [b'-', b'-', name @ ..] if !self.is_ended => self.take_long(name),
+            [b'-', flag, value @ ..] if !self.is_ended => self.take_flag(*flag, value),
+            _ => {
+                self.has_file = true;
+                Ok(Word::File)
+            }
         }
-        let bytes = given.bytes;
-        self.salt = bytes;
-        self
     }
 
     // A dash and a letter, which may have its value behind it in the same word.
-    fn take_flag(mut self, word: &[u8]) -> Options {
-        if is_flag(word, b'1') {
-            self.is_single = true;
-            return self;
+    fn take_flag(&mut self, flag: u8, value: &[u8]) -> Result<Word, BadWord> {
+        match (flag, value) {
+            (b'1', []) => self.mode = Mode::SinglePipe,
+            (b'b', []) => self.awaited = Some(Value::Bits),
+            (b's', []) => self.awaited = Some(Value::Salt),
+            (b'c', []) => self.asks_check = true,
+            (b'z', []) => self.is_zero_ended = true,
+            (b'h', []) => return Ok(Word::Help),
+            (b'b', bits) => return self.take_bits(bits),
+            (b's', salt) => return self.take_salt(salt),
+            _ => return Err(BadWord),
         }
-        if is_flag(word, b'b') {
-            self.wants_bits = true;
-            return self;
-        }
-        if is_flag(word, b's') {
-            self.wants_salt = true;
-            return self;
-        }
-        if is_flag(word, b'c') {
-            self.asks_check = true;
-            return self;
-        }
-        if is_flag(word, b'z') {
-            self.is_zero_ended = true;
-            return self;
-        }
-        if is_flag(word, b'h') {
-            return self.with_help();
-        }
-        self.take_attached(word)
-    }
-
-    fn take_attached(self, word: &[u8]) -> Options {
-        if word.len() < 2 {
-            return self.with_bad_word();
-        }
-        if word[1] == b'b' {
-            return self.take_bits(&word[2..]);
-        }
-        if word[1] == b's' {
-            return self.take_salt(&word[2..]);
-        }
-        self.with_bad_word()
+        Ok(Word::Option)
     }
 
     // Two dashes, alone or with a word.
-    fn take_long(mut self, word: &[u8]) -> Options {
-        if is_flag(word, b'-') {
-            self.is_ended = true;
-            return self;
+    fn take_long(&mut self, name: &[u8]) -> Result<Word, BadWord> {
+        match name {
+            b"" => self.is_ended = true,
+            b"help" => return Ok(Word::Help),
+            b"version" => return Ok(Word::Version),
+            b"tag" => self.is_tagged = true,
+            b"zero" => self.is_zero_ended = true,
+            b"check" => self.asks_check = true,
+            // Of these two the last one counts.
+            b"quiet" => self.printed = Printed::Failures,
+            b"status" => self.printed = Printed::None,
+            b"strict" => self.is_strict = true,
+            b"ignore-missing" => self.passes_missing = true,
+            _ => return self.take_verdict(name),
         }
-        if is_same(word, b"--help") {
-            return self.with_help();
-        }
-        if is_same(word, b"--version") {
-            self.asks_version = true;
-            self.goes_on = false;
-            return self;
-        }
-        if begins_with(word, b"--verdict-fd=") {
-            return self.take_verdict(word);
-        }
-        self.take_manner(word)
-    }
-
-    // How lines are written, and how lists are checked.
-    fn take_manner(mut self, word: &[u8]) -> Options {
-        if is_same(word, b"--tag") {
-            self.is_tagged = true;
-            return self;
-        }
-        if is_same(word, b"--zero") {
-            self.is_zero_ended = true;
-            return self;
-        }
-        if is_same(word, b"--check") {
-            self.asks_check = true;
-            return self;
-        }
-        // Of these two the last one counts.
-        if is_same(word, b"--quiet") {
-            self.is_quiet = true;
-            self.is_silent = false;
-            return self;
-        }
-        if is_same(word, b"--status") {
-            self.is_silent = true;
-            self.is_quiet = false;
-            return self;
-        }
-        if is_same(word, b"--strict") {
-            self.is_strict = true;
-            return self;
-        }
-        if is_same(word, b"--ignore-missing") {
-            self.passes_missing = true;
-            return self;
-        }
-        self.with_bad_word()
+        Ok(Word::Option)
     }
 
     // The first such word counts: it is the one of whoever waits for the verdict.
-    fn take_verdict(mut self, word: &[u8]) -> Options {
-        if word.len() != 14 {
-            return self.with_bad_word();
+    fn take_verdict(&mut self, name: &[u8]) -> Result<Word, BadWord> {
+        match name.strip_prefix(b"verdict-fd=") {
+            Some([digit @ b'3'..=b'9']) => {
+                self.verdict = self.verdict.or(Some(i32::from(*digit - b'0')));
+                Ok(Word::Option)
+            }
+            _ => Err(BadWord),
         }
-        let digit = word[13];
-        if digit < b'3' {
-            return self.with_bad_word();
-        }
-        if b'9' < digit {
-            return self.with_bad_word();
-        }
-        if self.verdict < 0 {
-            self.verdict = descriptor(digit);
-        }
-        self
     }
 
-    fn with_help(mut self) -> Options {
-        self.asks_help = true;
-        self.goes_on = false;
-        self
-    }
-
-    fn with_bad_word(mut self) -> Options {
-        self.is_bad = true;
-        self.goes_on = false;
-        self
+    pub fn bits(&self) -> u64 {
+        self.bits.unwrap_or(256)
     }
 
     // What lines of a list without a tag leave to the flags.
-    pub fn terms(self) -> Terms {
-        let salt = self.salt;
-        let bits = if self.has_bits { self.bits } else { 0 };
+    pub fn terms(&self) -> Terms {
         Terms {
-            is_single: self.is_single,
-            bits: bits,
-            salt: salt,
+            mode: self.mode,
+            bits: self.bits,
+            salt: self.salt,
         }
     }
 
     // How lines are written.
-    pub fn style(self) -> Style {
-        let salt = self.salt;
+    pub fn style(&self) -> Style {
         Style {
             is_tagged: self.is_tagged,
             is_zero_ended: self.is_zero_ended,
-            is_single: self.is_single,
-            bits: self.bits,
-            salt: salt,
+            mode: self.mode,
+            bits: self.bits(),
+            salt: self.salt,
         }
-    }
-}
-
-// The descriptor of a digit from 3 to 9.
-fn descriptor(digit: u8) -> i32 {
-    match digit {
-        b'3' => 3,
-        b'4' => 4,
-        b'5' => 5,
-        b'6' => 6,
-        b'7' => 7,
-        b'8' => 8,
-        _ => 9,
     }
 }

@@ -1,7 +1,5 @@
 // What goes to standard error, a line each. A room holds a name of 8,448 bytes, each of them escaped, and what stands around it: no word of
 // the command line and no line of a list has a longer one.
-ghost use Rattle.std.specs.Prelude.{◌≤◌, length};
-
 use lines::{put, put_decimal, put_named, put_reason};
 
 fn say(rt: &HostRuntime, before: &[u8], name: &[u8], after: &[u8]) {
@@ -78,16 +76,6 @@ pub(crate) fn say_none_verified(rt: &HostRuntime, list: &[u8]) {
     say(rt, b"echosum: ", list, b": no file was verified\n");
 }
 
-// One of two texts.
-fn put_either(room: &mut [u8], at: usize, is_one: bool, one: &[u8], other: &[u8]) -> usize
-    ensures { result ≤ length room.new }
-{
-    if is_one {
-        return put(room, at, one);
-    }
-    put(room, at, other)
-}
-
 // A number of things that went wrong, in words for one and for several.
 fn say_count(rt: &HostRuntime, count: u64, one: &[u8], several: &[u8]) {
     if count == 0 {
@@ -96,7 +84,7 @@ fn say_count(rt: &HostRuntime, count: u64, one: &[u8], several: &[u8]) {
     let mut line = [0u8; 128];
     let begun = put(&mut line, 0, b"echosum: WARNING: ");
     let numbered = put_decimal(&mut line, begun, count);
-    let end = put_either(&mut line, numbered, count == 1, one, several);
+    let end = put(&mut line, numbered, if count == 1 { one } else { several });
     let _ = host::say(rt, &line[0..end]);
 }
 

@@ -1,10 +1,11 @@
 // How the line of a digest is written: with a tag or without, and with a line end or a zero byte behind it.
-ghost use Rattle.std.specs.Prelude.{◌≤◌, ◌≡◌, cond, length, ◌++◌};
+ghost use Rattle.std.specs.Prelude.{◌≤◌, ◌≡◌, length, ◌++◌};
 ghost use Rattle.lines.specs.Decimal.{decimal_of};
 ghost use Rattle.lines.specs.Lines.{Put};
-ghost use Rattle.echosum.specs.Listed.{begins, double, single};
+ghost use Rattle.echosum.specs.Listed.{begins, mode_text};
 ghost use Rattle.echosum.specs.Style.{back_of, end_of, front_of, line_of, tag_of};
 
+use echo::Mode;
 use lines::{put, put_decimal, put_hex, put_named};
 
 #[derive(Clone, Copy)]
@@ -12,37 +13,36 @@ pub(crate) struct Style {
     pub is_tagged: bool,
     pub is_zero_ended: bool,
     // what a tag names
-    pub is_single: bool,
+    pub mode: Mode,
     pub bits: u64,
     pub salt: [u8; 16],
 }
 
 // ECHO-BITS-MODE- at the front of the room.
-fn put_kind(room: &mut [u8], bits: u64, is_single: bool) -> usize
-    ensures { Put room.old 0 (begins ++ (decimal_of bits ++ cond is_single single double)) room.new result }
+fn put_kind(room: &mut [u8], bits: u64, mode: Mode) -> usize
+    ensures { Put room.old 0 (begins ++ (decimal_of bits ++ mode_text mode)) room.new result }
 {
     let begun = put(room, 0, b"ECHO-");
     let numbered = put_decimal(room, begun, bits);
-    put_mode(room, numbered, is_single)
+    put_mode(room, numbered, mode)
 }
 
 // And the salt and a bracket behind it.
 fn put_tag(room: &mut [u8], style: Style) -> usize
-    ensures { Put room.old 0 (tag_of style.bits style.is_single style.salt) room.new result }
+    ensures { Put room.old 0 (tag_of style.bits style.mode style.salt) room.new result }
 {
-    let told = put_kind(room, style.bits, style.is_single);
-    let salt = style.salt;
-    let salted = put_hex(room, told, &salt);
+    let told = put_kind(room, style.bits, style.mode);
+    let salted = put_hex(room, told, &style.salt);
     put(room, salted, b" (")
 }
 
-fn put_mode(room: &mut [u8], at: usize, is_single: bool) -> usize
-    ensures { Put room.old at (cond is_single single double) room.new result }
+fn put_mode(room: &mut [u8], at: usize, mode: Mode) -> usize
+    ensures { Put room.old at (mode_text mode) room.new result }
 {
-    if is_single {
-        return put(room, at, b"-single-");
+    match mode {
+        Mode::SinglePipe => put(room, at, b"-single-"),
+        Mode::DoublePipe => put(room, at, b"-double-"),
     }
-    put(room, at, b"-double-")
 }
 
 // What stands in front of the name.

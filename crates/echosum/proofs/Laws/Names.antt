@@ -5,49 +5,17 @@ use mathlib.Core.List.{List, [], ◌∷◌, ◌++◌, append_assoc, append-nil}
 use Prim.Native.Nat.{ℕ, ◌+◌, ◌<◌, ◌≤◌}
 use native.Mathlib.Numerals.{add-one}
 use native.Mathlib.Omega.{arith}
-use borrow.Author.Tests.{eq-eqb, ne_eqb}
+use borrow.Author.Tests.{ne_eqb}
 use lib.Dec.{eqb}
 use lib.ListN.{drop, get_or, length, take}
 use lib.Seq.{drop-cons, drop-length, take-length, take-suc}
+use Rattle.std.specs.List.{list_any}
 use Rattle.lines.specs.Lines.{Put, spread}
 use Rattle.lines.specs.Names.{escape_of}
 use Rattle.lines.proofs.Promises.{escape_cases, put_join, put_nothing, spread_cons, spread_nil}
 use Rattle.echosum.specs.Bytes.{holds_of}
 use Rattle.echosum.specs.Names.{are_escapes, are_escapes_from, fault_at, is_name, meant_by, opens_at, unescaped, unescaped_from, undone_at}
-
--- ---- a letter
-
-module _ (y : ℕ) where
-  pub line_end : y ≡ 110 → 10 ≡ meant_by y
-  unfolding meant_by
-  line_end h = rw h
-
-  pub carriage_return : y ≡ 114 → 13 ≡ meant_by y
-  unfolding meant_by
-  carriage_return h = rw h
-
-  pub backslash : y ≡ 92 → 92 ≡ meant_by y
-  unfolding meant_by
-  backslash h = rw h
-
-  pub no_letter : (y ≡ 110 → ⊥) → (y ≡ 114 → ⊥) → (y ≡ 92 → ⊥) → 0 ≡ meant_by y
-  unfolding meant_by
-  no_letter a b c = simp (ne_eqb y 110 a, ne_eqb y 114 b, ne_eqb y 92 c)
-
--- ---- a byte, where the one before it begins an escape and where it does not
-
-module _ (o : Bool) (x : ℕ) where
-  pub fault_letter : o ≡ true → (m : ℕ) → m ≡ meant_by x → eqb m 0 ≡ fault_at o x
-  fault_letter t m e = rw (t, e)
-
-  pub no_fault : o ≡ false → false ≡ fault_at o x
-  no_fault f = rw f
-
-  pub opens_none : o ≡ true → false ≡ opens_at o x
-  opens_none t = rw t
-
-  pub opens_backslash : o ≡ false → eqb x 92 ≡ opens_at o x
-  opens_backslash f = rw f
+use Rattle.echosum.proofs.Laws.Style.{by}
 
 -- ---- whether escapes can be undone
 
@@ -56,44 +24,47 @@ module _ (text : List ℕ) where
   unfolding are_escapes
   escapes_begin = refl
 
-  module _ (i n : ℕ) (e : n ≡ length text) (o : Bool) (so_far : are_escapes text ≡ are_escapes_from o (drop i text)) where
-    module _ (h : i < n) (t : Bool) (q : t ≡ fault_at o (get_or text i 0)) where
+  module _ (i : ℕ) (o : Bool) (so_far : are_escapes text ≡ are_escapes_from o (drop i text)) where
+    module _ (h : i < length text) (t : Bool) (q : t ≡ fault_at o (get_or text i 0)) where
       pub no_escape : t ≡ true → false ≡ are_escapes text
       unfolding are_escapes_from
-      no_escape z =
-          let g : i < length text = omega arith in
-          sym (so_far ∙ rw (drop-cons text i 0 g, ← q, z))
+      no_escape z = sym (so_far ∙ rw (drop-cons text i 0 h, ← q, z))
 
       pub escapes_go_on : t ≡ false → (p : Bool) → p ≡ opens_at o (get_or text i 0) → are_escapes text ≡ are_escapes_from p (drop (i + 1) text)
       unfolding are_escapes_from
-      escapes_go_on z p r =
-          let g : i < length text = omega arith in
-          so_far ∙ rw (drop-cons text i 0 g, ← q, z, r, add-one i)
+      escapes_go_on z p r = so_far ∙ rw (drop-cons text i 0 h, ← q, z, r, add-one i)
 
-    pub escapes_end : i ≤ n → n ≤ i → not o ≡ are_escapes text
+    pub escapes_end : i ≤ length text → length text ≤ i → not o ≡ are_escapes text
     unfolding are_escapes_from
     escapes_end h g = let p : i ≡ length text = omega arith in sym (so_far ∙ rw (p, drop-length))
 
+-- ---- a byte among others
+
+pub any_holds : (byte : ℕ) (bytes : List ℕ) → list_any (λ x. eqb x byte) bytes ≡ holds_of byte bytes
+unfolding holds_of
+any_holds byte [] = refl
+any_holds byte (x ∷ xs) = by (eqb x byte) (λ t. rw t) (λ f. rw f (any_holds byte xs))
+
 -- ---- names
 
-module _ (text : List ℕ) (o : Bool) where
-  pub no_bytes : length text ≡ 0 → false ≡ is_name o text
+module _ (text : List ℕ) (o empty : Bool) (p : empty ≡ eqb (length text) 0) (e : empty ≡ false) (t : Bool) (q : t ≡ list_any (λ x. eqb x 0) text) where
+  some : eqb (length text) 0 ≡ false
+  some = sym p ∙ e
+
+  zero : holds_of 0 text ≡ t
+  zero = sym (any_holds 0 text) ∙ sym q
+
+  pub zero_byte : t ≡ true → false ≡ is_name o text
   unfolding is_name
-  no_bytes h = simp (eq-eqb (length text) 0 h)
+  zero_byte z = rw (some, zero, z)
 
-  module _ (h : length text ≡ 0 → ⊥) (t : Bool) (q : t ≡ holds_of 0 text) where
-    pub zero_byte : t ≡ true → false ≡ is_name o text
-    unfolding is_name
-    zero_byte z = rw (← q, z) (simp (ne_eqb (length text) 0 h))
+  pub escaped_name : t ≡ false → o ≡ true → (r : Bool) → r ≡ are_escapes text → r ≡ is_name o text
+  unfolding is_name
+  escaped_name z g r w = rw (some, zero, z, g, w)
 
-    module _ (z : t ≡ false) where
-      pub escaped_name : o ≡ true → (r : Bool) → r ≡ are_escapes text → r ≡ is_name o text
-      unfolding is_name
-      escaped_name p r e = rw (p, ← q, z, e) (simp (ne_eqb (length text) 0 h))
-
-      pub plain_name : o ≡ false → true ≡ is_name o text
-      unfolding is_name
-      plain_name p = rw (p, ← q, z) (simp (ne_eqb (length text) 0 h))
+  pub plain_name : t ≡ false → o ≡ false → not o ≡ is_name o text
+  unfolding is_name
+  plain_name z g = rw (some, zero, z, g)
 
 -- ---- escapes undone
 
@@ -136,20 +107,9 @@ module _ (text : List ℕ) where
     unfolding unescaped unescaped_from
     undone_none = put_nothing room 0 0 (omega arith)
 
-    pub undone_all : (i n : ℕ) (after : List ℕ) (r : ℕ) → i ≤ n → n ≤ i → n ≡ length text → Put room 0 (unescaped (take i text)) after r
+    pub undone_all : (i : ℕ) (after : List ℕ) (r : ℕ) → i ≤ length text → length text ≤ i → Put room 0 (unescaped (take i text)) after r
         → Put room 0 (unescaped text) after r
-    undone_all i n after r h g e p = let l : i ≡ length text = omega arith in rw (l, take-length) at p
-
--- one byte of it
-module _ (o : Bool) (x : ℕ) (room : List ℕ) (at : ℕ) (after : List ℕ) (r : ℕ) where
-  pub undone_letter : o ≡ true → (m : ℕ) → m ≡ meant_by x → Put room at (m ∷ []) after r → Put room at (undone_at o x) after r
-  undone_letter t m e p = rw (t, ← e) p
-
-  pub undone_backslash : o ≡ false → x ≡ 92 → Put room at [] after r → Put room at (undone_at o x) after r
-  undone_backslash f h p = rw (f, h) p
-
-  pub undone_byte : o ≡ false → (x ≡ 92 → ⊥) → Put room at (x ∷ []) after r → Put room at (undone_at o x) after r
-  undone_byte f h p = rw f (simp (ne_eqb x 92 h) p)
+    undone_all i after r h g p = let l : i ≡ length text = omega arith in rw (l, take-length) at p
 
 -- ---- what was escaped
 

@@ -10,20 +10,16 @@ use Rattle.lines.specs.Hexadecimal.{digits_of}
 use Rattle.lines.specs.Lines.{Put, spread}
 use Rattle.lines.specs.Names.{escape_of, mark_of}
 use Rattle.lines.proofs.Promises.{few_digits, put_join, put_stands, spread_cons, spread_nil}
+use Rattle.echo.specs.declared.mode.Mode.{Mode}
+use Rattle.echo.specs.declared.mode.Mode.TheVariants.{DoublePipe, SinglePipe}
 use Rattle.echosum.specs.declared.style.Style.{Style}
 use Rattle.echosum.specs.Bytes.{part}
-use Rattle.echosum.specs.Listed.{begins, closes, double, opens, single}
+use Rattle.echosum.specs.Listed.{begins, closes, mode_text, opens}
 use Rattle.echosum.specs.Style.{back_of, end_of, front_of, line_of, tag_of}
 
 -- ---- the parts
 
 module _ (room : List ℕ) (at : ℕ) (after : List ℕ) (r : ℕ) (b : Bool) where
-  pub single_put : b ≡ true → Put room at single after r → Put room at (cond b single double) after r
-  single_put t p = rw t p
-
-  pub double_put : b ≡ false → Put room at double after r → Put room at (cond b single double) after r
-  double_put f p = rw f p
-
   pub zero_put : b ≡ true → Put room at (0 ∷ []) after r → Put room at (end_of b) after r
   unfolding end_of
   zero_put t p = rw t p
@@ -36,23 +32,23 @@ pub three_put : (room one : List ℕ) (i : ℕ) (two : List ℕ) (j : ℕ) (afte
     → Put room 0 a one i → Put one i b two j → Put two j c after r → Put room 0 (a ++ b ++ c) after r
 three_put room one i two j after r a b c p q s = put_join room 0 _ two j c after r (put_join room 0 a one i b two j p q) s
 
-pub kind_put : (room one : List ℕ) (i : ℕ) (two : List ℕ) (j : ℕ) (after : List ℕ) (r bits : ℕ) (b : Bool)
-    → Put room 0 begins one i → Put one i (decimal_of bits) two j → Put two j (cond b single double) after r
-    → Put room 0 (begins ++ (decimal_of bits ++ cond b single double)) after r
-kind_put room one i two j after r bits b p q s = put_join room 0 _ one i _ after r p (put_join one i _ two j _ after r q s)
+pub kind_put : (room one : List ℕ) (i : ℕ) (two : List ℕ) (j : ℕ) (after : List ℕ) (r bits : ℕ) (m : Mode)
+    → Put room 0 begins one i → Put one i (decimal_of bits) two j → Put two j (mode_text m) after r
+    → Put room 0 (begins ++ (decimal_of bits ++ mode_text m)) after r
+kind_put room one i two j after r bits m p q s = put_join room 0 _ one i _ after r p (put_join one i _ two j _ after r q s)
 
-pub tag_put : (room one : List ℕ) (i : ℕ) (two : List ℕ) (j : ℕ) (after : List ℕ) (r bits : ℕ) (b : Bool) (salt : List ℕ)
-    → Put room 0 (begins ++ (decimal_of bits ++ cond b single double)) one i → Put one i (spread digits_of salt) two j → Put two j opens after r
-    → Put room 0 (tag_of bits b salt) after r
+pub tag_put : (room one : List ℕ) (i : ℕ) (two : List ℕ) (j : ℕ) (after : List ℕ) (r bits : ℕ) (m : Mode) (salt : List ℕ)
+    → Put room 0 (begins ++ (decimal_of bits ++ mode_text m)) one i → Put one i (spread digits_of salt) two j → Put two j opens after r
+    → Put room 0 (tag_of bits m salt) after r
 unfolding tag_of
-tag_put room one i two j after r bits b salt p q s =
-    let e : begins ++ (decimal_of bits ++ (cond b single double ++ (spread digits_of salt ++ opens)))
-    ≡ (begins ++ (decimal_of bits ++ cond b single double)) ++ (spread digits_of salt ++ opens)
+tag_put room one i two j after r bits m salt p q s =
+    let e : begins ++ (decimal_of bits ++ (mode_text m ++ (spread digits_of salt ++ opens)))
+    ≡ (begins ++ (decimal_of bits ++ mode_text m)) ++ (spread digits_of salt ++ opens)
     = simp append_assoc in
     rw e (put_join room 0 _ one i _ after r p (put_join one i _ two j _ after r q s))
 
 module _ (style : Style) (digest room after : List ℕ) (r : ℕ) where
-  pub tagged_front : style.is_tagged ≡ true → Put room 0 (tag_of style.bits style.is_single style.salt) after r
+  pub tagged_front : style.is_tagged ≡ true → Put room 0 (tag_of style.bits style.mode style.salt) after r
       → Put room 0 (front_of style digest) after r
   unfolding front_of
   tagged_front t p = rw t p
@@ -86,9 +82,9 @@ unfolding end_of
 length_end true = refl
 length_end false = refl
 
-length-mode : (b : Bool) → length (cond b single double) ≡ 8
-length-mode true = refl
-length-mode false = refl
+pub length-mode : (m : Mode) → length (mode_text m) ≡ 8
+length-mode SinglePipe = refl
+length-mode DoublePipe = refl
 
 module _ (style : Style) (digest : List ℕ) (d : length digest ≤ 64) (s : length style.salt ≡ 16) where
   front_fits : length (front_of style digest) ≤ 130
@@ -98,7 +94,7 @@ module _ (style : Style) (digest : List ℕ) (d : length digest ≤ 64) (s : len
       (λ t.
       rw t
       (simp length-append
-      (omega (arith, few_digits style.bits, length-mode style.is_single, length_digits style.salt))))
+      (omega (arith, few_digits style.bits, length-mode style.mode, length_digits style.salt))))
       (λ f. rw f (simp length-append (omega (arith, length_digits digest))))
 
   back_fits : length (back_of style digest) ≤ 133

@@ -3,10 +3,10 @@ use Rattle.echosum.proofs.Laws.Listed.{name_ends, name_starts}
 use Rattle.echosum.proofs.checking.Tally.take_line.Goals as goal
 
 pub slice_bounds-put_listed-count : goal.slice_bounds-put_listed-count
-slice_bounds-put_listed-count c = search name_starts
+slice_bounds-put_listed-count c = let said = c.in-Some.ensures in search name_starts
 
 pub slice_bounds-put_listed-start : goal.slice_bounds-put_listed-start
-slice_bounds-put_listed-start c = search name_starts
+slice_bounds-put_listed-start c = let said = c.in-Some.ensures in search name_starts
 
 pub slice_bounds-put_listed-end-2 : goal.slice_bounds-put_listed-end-2
-slice_bounds-put_listed-end-2 c = search name_ends
+slice_bounds-put_listed-end-2 c = let said = c.in-Some.ensures in search name_ends

@@ -2,9 +2,9 @@
 // Runs the nine full rounds of FIPS 197, Appendix B. Standard input has the word that starts round 1 and then the nine keys, a line
 // of 32 hex digits each. The program prints the result of each round, and then what the way back makes of it, from the last round to
 // the first.
-ghost use Rattle.std.specs.Prelude.{◌<◌, ◌≡◌, length};
+ghost use Rattle.std.specs.Prelude.{◌<◌};
 
-use lines::{put, put_hex};
+use lines::Line;
 
 // The number that a hex digit stands for.
 fn value(digit: u8) -> u8
@@ -18,36 +18,32 @@ fn value(digit: u8) -> u8
 }
 
 // Line n of the input as sixteen bytes.
-fn line(text: &[u8], n: usize) -> [u8; 16]
-    requires text_len { length text.now ≡ 330 }
-    requires n_bound { n < 10 }
+fn line(text: &[u8; 330], n: usize) -> [u8; 16]
+    requires { n < 10 }
 {
     let mut word = [0u8; 16];
-    for i in 0..16 {
+    for (i, byte) in word.iter_mut().enumerate() {
         let at = 33 * n + 2 * i;
-        word[i] = 16 * value(text[at]) + value(text[at + 1]);
+        *byte = 16 * value(text[at]) + value(text[at + 1]);
     }
     word
 }
 
 fn print(rt: &HostRuntime, word: [u8; 16]) {
-    let mut line = [0u8; 33];
-    let spelled = put_hex(&mut line, 0, &word);
-    let end = put(&mut line, spelled, b"\n");
-    let _ = host::print(rt, &line[0..end]);
+    let mut line = Line::<33>::new();
+    line.hex(&word).text(b"\n");
+    let _ = host::print(rt, line.bytes());
 }
 
-fn run(rt: &HostRuntime, text: &[u8])
-    requires { length text.now ≡ 330 }
-{
+fn run(rt: &HostRuntime, text: &[u8; 330]) {
     let mut word = line(text, 0);
     for n in 1..10 {
         let after = aes_round::round(word, line(text, n));
         print(rt, after);
         word = after;
     }
-    for n in 1..10 {
-        let before = aes_round::round_back(word, line(text, 10 - n));
+    for n in (1..10).rev() {
+        let before = aes_round::round_back(word, line(text, n));
         print(rt, before);
         word = before;
     }

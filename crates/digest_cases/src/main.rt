@@ -7,68 +7,27 @@
 // read after each piece, too: reading changes nothing. Where bits are told that don't count, those are zero, and the routines for bits are called.
 ghost use Rattle.std.specs.Prelude.{◌≤◌, ◌+◌, ◌*◌, ◌<◌, ◌≡◌, length};
 
+use cases_in::{fill, mode_of};
 use echo::{Mode, Session};
-use lines::{put, put_decimal, put_hex};
-
-fn wide(x: u8) -> u64
-    ensures { result < 256 }
-{
-    x as u64
-}
+use lines::Line;
 
 // The number in two bytes from the place `at` on.
-fn short(bytes: &[u8], at: usize) -> usize
-    requires { at + 2 ≤ length bytes.now }
-    ensures { result < 65536 }
+fn short(case: &[u8; 32], at: usize) -> u16
+    requires { at + 2 ≤ 32 }
 {
-    (wide(bytes[at]) + 256 * wide(bytes[at + 1])) as usize
-}
-
-fn mode_of(number: u8) -> Mode {
-    if number == 1 {
-        Mode::SinglePipe
-    } else {
-        Mode::DoublePipe
-    }
-}
-
-fn fill(message: &mut [u8], seed: u8)
-    requires { length message.old ≤ 1024 }
-{
-    let n = message.len();
-    for i in 0..n {
-        message[i] = ((seed as usize + 29 * i + 101 * (i / 256)) % 256) as u8;
-    }
+    u16::from_le_bytes([case[at], case[at + 1]])
 }
 
 fn print_refused(rt: &HostRuntime, number: u8) {
-    let mut line = [0u8; 32];
-    let named = put(&mut line, 0, b"refused ");
-    let numbered = put_decimal(&mut line, named, number as u64);
-    let end = put(&mut line, numbered, b"\n");
-    let _ = host::print(rt, &line[0..end]);
+    let mut line = Line::<32>::new();
+    line.text(b"refused ").decimal(number as u64).text(b"\n");
+    let _ = host::print(rt, line.bytes());
 }
 
-fn print_digest(rt: &HostRuntime, digest: &[u8], size: usize)
-    requires { size ≤ length digest.now }
-{
-    let mut line = [0u8; 129];
-    let spelled = put_hex(&mut line, 0, &digest[0..size]);
-    let end = put(&mut line, spelled, b"\n");
-    let _ = host::print(rt, &line[0..end]);
-}
-
-// Where a piece of k bytes from `at` on ends in a message of n bytes.
-fn piece_end(at: usize, k: usize, n: usize) -> usize
-    requires at_lt_n { at < n }
-    requires k_nonzero { 0 < k }
-    ensures lower_bound { at < result }
-    ensures upper_bound { result ≤ n }
-{
-    if n - at < k {
-        return n;
-    }
-    at + k
+fn print_digest(rt: &HostRuntime, digest: &[u8]) {
+    let mut line = Line::<129>::new();
+    line.hex(digest).text(b"\n");
+    let _ = host::print(rt, line.bytes());
 }
 
 // Adds the message in pieces of k bytes and reads after each, and at the end; answers the last reading's refusal.
@@ -76,50 +35,26 @@ fn in_pieces(opened: Session, message: &[u8], k: usize, out: &mut [u8]) -> u8
     requires { 0 < k }
 {
     let mut session = opened;
-    let mut at = 0;
-    while at < message.len() {
-        let end = piece_end(at, k, message.len());
-        let added = session.add(&message[at..end]);
-        let next = added.session;
-        let read = next.read(out);
-        session = read.session;
-        at = end;
+    for piece in message.chunks(k) {
+        let added = session.add(piece).session;
+        session = added.read(out).session;
     }
-    let last = session.read(out);
-    last.refusal
+    session.read(out).refusal
 }
 
-// The bits of a piece that ends at the place `end`, of a message of so many bits: eight for each byte, but for a part byte at the message's end.
-fn bits_between(at: usize, end: usize, count: u64) -> u64
-    requires at_le_end { at ≤ end }
-    requires end_bound { end ≤ 1024 }
-{
-    if count < 8 * (end as u64) {
-        if 8 * (at as u64) < count {
-            return count - 8 * (at as u64);
-        }
-        return 0;
-    }
-    8 * ((end - at) as u64)
-}
-
-// The same with so many bits of the message, each piece with its own.
+// The same with so many bits of the message: eight of each byte, but for a part byte at the message's end.
 fn bits_in_pieces(opened: Session, message: &[u8], count: u64, k: usize, out: &mut [u8]) -> u8
-    requires k_nonzero { 0 < k }
-    requires message_len_bound { length message.now ≤ 1024 }
+    requires { 0 < k }
 {
     let mut session = opened;
-    let mut at = 0;
-    while at < message.len() {
-        let end = piece_end(at, k, message.len());
-        let added = session.add_bits(&message[at..end], bits_between(at, end, count));
-        let next = added.session;
-        let read = next.read(out);
-        session = read.session;
-        at = end;
+    let mut left = count;
+    for piece in message.chunks(k) {
+        let bits = left.min((piece.len() as u64).saturating_mul(8));
+        left -= bits;
+        let added = session.add_bits(piece, bits).session;
+        session = added.read(out).session;
     }
-    let last = session.read(out);
-    last.refusal
+    session.read(out).refusal
 }
 
 // The bits of the last of n bytes that don't count: told as one more, at most seven, and none where there is no byte.
@@ -128,133 +63,99 @@ fn unused_bits(told: u8, n: usize) -> u8
     ensures upper_bound_2 { result ≤ 8 * n }
 {
     if n == 0 {
-        return 0;
+        0
+    } else {
+        told.saturating_sub(1).min(7)
     }
-    if told == 0 {
-        return 0;
-    }
-    if 8 < told {
-        return 7;
-    }
-    told - 1
 }
 
-// Clears the bits of the last of n bytes that don't count.
-fn clear_last(room: &mut [u8], n: usize, unused: u8)
-    requires n_in_bounds { n ≤ length room.old }
-    requires unused_bound { unused < 8 }
+// Clears the bits of the last byte that don't count.
+fn clear_last(message: &mut [u8], unused: u8)
+    requires { unused < 8 }
 {
-    if 0 < n {
-        room[n - 1] = (room[n - 1] >> unused) << unused;
+    if let Some(last) = message.last_mut() {
+        *last = (*last >> unused) << unused;
     }
 }
 
-// The digest of so many bits, in the first n bytes of `room`.
+// The digest of so many bits of the message, at once or in pieces of k bytes.
 fn digest_of_bits(
     mode: Mode,
     bits: u64,
     salt: &[u8],
-    room: &[u8],
-    n: usize,
+    message: &[u8],
     count: u64,
     k: usize,
     out: &mut [u8],
-) -> u8
-    requires n_in_bounds { n ≤ length room.now }
-    requires n_bound { n ≤ 1024 }
-{
+) -> u8 {
     if k == 0 {
-        return echo::digest_bits(mode, bits, salt, &room[0..n], count, out);
+        return echo::digest_bits(mode, bits, salt, message, count, out);
     }
     let opening = Session::open(mode, bits, salt);
-    let refused = opening.refusal;
-    if refused != 0 {
-        return refused;
+    if opening.refusal != 0 {
+        return opening.refusal;
     }
-    bits_in_pieces(opening.session, &room[0..n], count, k, out)
+    bits_in_pieces(opening.session, message, count, k, out)
 }
 
-// The digest of the first n bytes of `room`.
-fn digest_of(
-    mode: Mode,
-    bits: u64,
-    salt: &[u8],
-    room: &[u8],
-    n: usize,
-    k: usize,
-    out: &mut [u8],
-) -> u8
-    requires { n ≤ length room.now }
-{
+// The digest of the message.
+fn digest_of(mode: Mode, bits: u64, salt: &[u8], message: &[u8], k: usize, out: &mut [u8]) -> u8 {
     if k == 0 {
-        return echo::digest(mode, bits, salt, &room[0..n], out);
+        return echo::digest(mode, bits, salt, message, out);
     }
     let opening = Session::open(mode, bits, salt);
-    let refused = opening.refusal;
-    if refused != 0 {
-        return refused;
+    if opening.refusal != 0 {
+        return opening.refusal;
     }
-    in_pieces(opening.session, &room[0..n], k, out)
+    in_pieces(opening.session, message, k, out)
 }
 
-// The digest of a case, whose salt ends at the place `end`, by the routines for bytes or for bits.
-fn digest_in(case: &[u8], end: usize, room: &[u8], n: usize, unused: u8, out: &mut [u8]) -> u8
-    requires case_len { length case.now ≡ 32 }
-    requires le_end { 16 ≤ end }
-    requires end_bound { end ≤ 32 }
-    requires n_in_bounds { n ≤ length room.now }
-    requires n_bound { n ≤ 1024 }
-    requires unused_bound { unused ≤ 8 * n }
+// The digest of a case, by the routines for bytes or for bits.
+fn digest_in(case: &[u8; 32], salt: &[u8], message: &[u8], unused: u8, out: &mut [u8]) -> u8
+    requires bounded { length message.now ≤ 1024 }
+    requires unused_bound { unused ≤ 8 * length message.now }
 {
     let mode = mode_of(case[8]);
     let bits = short(case, 0) as u64;
-    let k = short(case, 5);
+    let k = short(case, 5) as usize;
     if case[9] == 0 {
-        return digest_of(mode, bits, &case[16..end], room, n, k, out);
+        return digest_of(mode, bits, salt, message, k, out);
     }
-    let count = 8 * (n as u64) - unused as u64;
-    digest_of_bits(mode, bits, &case[16..end], room, n, count, k, out)
+    let count = 8 * (message.len() as u64) - unused as u64;
+    digest_of_bits(mode, bits, salt, message, count, k, out)
 }
 
-fn run(rt: &HostRuntime, case: &[u8])
-    requires { length case.now ≡ 32 }
-{
-    let bits = short(case, 0);
-    let n = short(case, 2);
-    let salt_end = 16 + wide(case[7]) as usize;
-    if 1024 < n {
-        return;
-    }
-    if 32 < salt_end {
+fn run(rt: &HostRuntime, case: &[u8; 32]) {
+    let n = short(case, 2) as usize;
+    let salt_end = 16 + case[7] as usize;
+    if 1024 < n || 32 < salt_end {
         return;
     }
     let mut room = [0u8; 1024];
     fill(&mut room, case[4]);
-    let mut out = [0u8; 64];
+    let message = &mut room[..n];
     let unused = unused_bits(case[9], n);
-    clear_last(&mut room, n, unused);
-    let refusal = digest_in(case, salt_end, &room, n, unused, &mut out);
+    clear_last(message, unused);
+    let mut out = [0u8; 64];
+    let refusal = digest_in(case, &case[16..salt_end], message, unused, &mut out);
     if refusal != 0 {
         print_refused(rt, refusal);
         return;
     }
-    let end = bits / 8;
+    let end = (short(case, 0) / 8) as usize;
     if end <= 64 {
-        print_digest(rt, &out, end);
+        print_digest(rt, &out[..end]);
     }
 }
 
-// A proved loop has to end, and nothing says that the input does: the turns count down from a number that no run uses up.
+// A proved loop has to end, and nothing says that the input does: there are more turns than any run uses up.
 fn main(rt: HostRuntime) {
     let mut input = host::standard_input(&rt);
     let mut case = [0u8; 32];
-    let mut turns = u64::MAX;
-    while 0 < turns {
-        let n = host::read_full(&mut input, &mut case);
-        if n < 32 {
+    for _ in 0..u64::MAX {
+        if host::read_full(&mut input, &mut case) < 32 {
             return;
         }
         run(&rt, &case);
-        turns -= 1;
     }
 }

@@ -1,0 +1,1 @@
+-- What is proved of this crate, apart from its functions: nothing.

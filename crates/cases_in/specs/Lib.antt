@@ -1,0 +1,3 @@
+-- What the contracts of this crate mean.
+pub mod Bytes
+pub mod Modes

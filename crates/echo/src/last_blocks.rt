@@ -1,15 +1,14 @@
 // The blocks of padding at the end of a message.
-ghost use Rattle.std.specs.Prelude.{◌≡◌, ◌-◌, ◌*◌, ◌%◌, ◌^◌, ◌≤◌, true, ◌++◌, length, take, drop, ◌==◌};
+ghost use Rattle.std.specs.Prelude.{◌≡◌, ◌-◌, ◌%◌, ◌^◌, ◌≤◌, true, ◌++◌, take, drop, ◌==◌};
 ghost use Rattle.echo.specs.Bits.{bits_of};
-ghost use Rattle.echo.specs.Families.{block_size, chaining_size, either};
+ghost use Rattle.echo.specs.Families.{either};
 ghost use Rattle.echo.specs.Numbers.{little_endian};
-ghost use Rattle.echo.specs.Session.{all_zero, bit_limit, compressed, final_chaining, made};
+ghost use Rattle.echo.specs.Session.{all_zero, bit_limit, block_of, chaining_of, compressed, final_chaining, msize_of};
 
 use super::bits::marked;
 use super::families::block_size;
 use super::lent::copy_in;
-use super::mode::Mode;
-use super::waiting::{clear, compress_waiting};
+use super::session::Session;
 
 // The last eighteen bytes of the padding: the digest length in two bytes and the message's bit count in sixteen.
 fn lengths(bits: u64, taken: u64) -> [u8; 18]
@@ -29,53 +28,37 @@ fn last_counter(within: u64, taken: u64) -> u64
     if within == 0 { 0 } else { taken }
 }
 
-// Closes the waiting block with the lengths and compresses it.
-fn close(
-    chaining: &mut [u8],
-    waiting: &mut [u8],
-    mode: Mode,
-    bits: u64,
-    taken: u64,
-    counter: u64,
-    salt: [u8; 16],
-)
-    requires chaining_len { length chaining.old ≡ 128 }
-    requires waiting_len { length waiting.old ≡ 224 }
-    requires counter_bound { counter ≤ 2 ^ 64 - 161 }
-    requires bits_bound { bits ≤ 512 }
-    ensures { chaining.new ≡ compressed mode bits salt chaining.old counter (take (block_size mode bits - 18) waiting.old ++ (little_endian 2 bits ++ little_endian 16 taken)) }
-{
-    let at = block_size(mode, bits) - 18;
-    let end = lengths(bits, taken);
-    copy_in(waiting, at, &end);
-    compress_waiting(chaining, waiting, mode, bits, counter, salt);
-}
-
-// The blocks that are left: those of the waiting bits and the padding.
-pub(crate) fn finish(
-    chaining: &mut [u8],
-    waiting: &mut [u8],
-    mode: Mode,
-    bits: u64,
-    taken: u64,
-    salt: [u8; 16],
-)
-    requires chaining_len { length chaining.old ≡ 128 }
-    requires waiting_len { length waiting.old ≡ 224 }
-    requires waiting_value { all_zero (drop (taken % (8 * block_size mode bits)) (bits_of waiting.old)) ≡ true }
-    requires bits_bound { bits ≤ 512 }
-    requires taken_le_bit_limit { taken ≤ bit_limit }
-    ensures { take (chaining_size mode bits) chaining.new ≡ final_chaining (made mode bits salt chaining.old taken waiting.old) }
-{
-    let b = block_size(mode, bits);
-    let at = (taken / 8 % (b as u64)) as usize;
-    let counter = last_counter(taken % (8 * (b as u64)), taken);
-    waiting[at] = marked(waiting[at], taken % 8);
-    if at + 19 <= b {
-        close(chaining, waiting, mode, bits, taken, counter, salt);
-        return;
+impl Session {
+    // Closes the waiting block with the lengths and compresses it.
+    fn close(&mut self, counter: u64)
+        requires counter_bound { counter ≤ 2 ^ 64 - 161 }
+        requires bits_bound { self.old.bits ≤ 512 }
+        ensures { self.new.chaining ≡ compressed self.old.mode self.old.bits self.old.salt self.old.chaining counter (take (block_of self.old - 18) self.old.waiting ++ (little_endian 2 self.old.bits ++ little_endian 16 self.old.taken)) }
+    {
+        let at = block_size(self.mode, self.bits) - 18;
+        let end = lengths(self.bits, self.taken);
+        copy_in(&mut self.waiting, at, &end);
+        self.compress(counter);
     }
-    compress_waiting(chaining, waiting, mode, bits, counter, salt);
-    clear(waiting);
-    close(chaining, waiting, mode, bits, taken, 0, salt);
+
+    // The chaining room after the blocks that are left: those of the waiting bits and the padding.
+    pub(crate) fn finish(mut self) -> [u8; 128]
+        requires waiting_value { all_zero (drop (self.taken % msize_of self) (bits_of self.waiting)) ≡ true }
+        requires bits_bound { self.bits ≤ 512 }
+        requires taken_le_bit_limit { self.taken ≤ bit_limit }
+        ensures { take (chaining_of self) result ≡ final_chaining self }
+    {
+        let b = block_size(self.mode, self.bits);
+        let at = (self.taken / 8 % (b as u64)) as usize;
+        let counter = last_counter(self.taken % (8 * (b as u64)), self.taken);
+        self.waiting[at] = marked(self.waiting[at], self.taken % 8);
+        if at + 19 <= b {
+            self.close(counter);
+            return self.chaining;
+        }
+        self.compress(counter);
+        self.waiting = [0; 224];
+        self.close(0);
+        self.chaining
+    }
 }

@@ -6,12 +6,11 @@ ghost use Rattle.echo.specs.Session.{add_answer, add_bits_answer, add_bits_refus
 use super::bits::zero_bits_from;
 use super::families::{admitted, block_size, chaining_size};
 use super::initial::initial;
-use super::last_blocks::finish;
 use super::lent::{copy_in, sixteen};
 use super::mode::Mode;
 use super::refusal::Refusal;
 use super::refusals::{BIT_LIMIT, LIMIT};
-use super::waiting::{absorb, zeros_from};
+use super::waiting::zeros_from;
 
 // A digest that is under way. It is passed by value, and each call hands it back.
 #[derive(Clone, Copy)]
@@ -137,19 +136,9 @@ impl Session {
         if let Err(refusal) = self.check_add_bits(piece, count) {
             return Err(self.refused(refusal));
         }
-        let mut added = self;
-        absorb(
-            &mut added.chaining,
-            &mut added.waiting,
-            piece,
-            count,
-            self.mode,
-            self.bits,
-            self.taken,
-            self.salt,
-        );
-        added.taken += count;
-        Ok(added)
+        let mut longer = self;
+        longer.absorb(piece, count);
+        Ok(longer)
     }
 
     // The session with a piece of whole bytes joined to its message. Refused as `NoSession`, `TooLong` or `BehindPart`.
@@ -179,9 +168,7 @@ impl Session {
         if out.len() < n {
             return Err(self.refused(Refusal::NoRoom));
         }
-        let mut v = self.chaining;
-        let mut w = self.waiting;
-        finish(&mut v, &mut w, self.mode, self.bits, self.taken, self.salt);
+        let v = self.finish();
         copy_in(out, 0, &v[..n]);
         Ok(self)
     }

@@ -4,20 +4,20 @@ use native.Mathlib.Nat.{div-add-mod, div-eq_of_lt, min-eq_left, mul-add-div, mul
 use lib.ListN.{get_or-replicate, length-replicate, replicate-append-replicate}
 use Rattle.aes_round.proofs.Promises.{length-xor, lt_or_le, same_list}
 use Rattle.echo.specs.declared.mode.Mode.{Mode}
+use Rattle.echo.specs.declared.session.Session.{Session}
 use Rattle.echo.specs.Bits.{bits_of, byte_bits, packed}
 use Rattle.echo.specs.Compression.{big_final, compress}
 use Rattle.echo.specs.Digest.{block, block_count, counter_at, iterate}
 use Rattle.echo.specs.Families.{block_size, chaining_size, either, round_count}
 use Rattle.echo.specs.Padding.{padding}
 use Rattle.echo.specs.Placed.{Placed}
-use Rattle.echo.specs.Session.{all_zero, bit_limit, compressed, final_chaining, made}
+use Rattle.echo.specs.Session.{all_zero, bit_limit, block_of, chaining_of, compressed, final_chaining, made}
 use Rattle.echo.specs.Square.{keys_from}
 use Rattle.echo.proofs.Laws.Bits.{Part, take_part, zero_within}
 use Rattle.echo.proofs.Laws.Counting.{bits_mod, div_on, mod_on}
 use Rattle.echo.proofs.Laws.Families.{block_pos, sizes}
 use Rattle.echo.proofs.Laws.Joined.{first_part, second_part}
 use Rattle.echo.proofs.Laws.Padded.{ending, length_lengths, lengths_of, packed_behind}
-use Rattle.echo.proofs.Laws.Placed.{cleared}
 use Rattle.echo.proofs.Laws.Zeros.{both, zero_from}
 
 -- a block of b bytes whose last eighteen are the lengths e
@@ -376,18 +376,38 @@ module _ (mode : Mode) (h L b k : ℕ) (size : b ≡ block_size mode h) (counter
     begun_is : set w (L / 8 % b) y ≡ set w (L / 8 % block_size mode h) (get_or w (L / 8 % block_size mode h) 0 + 2 ^ (7 - L % 8))
     begun_is = ap (set w (L / 8 % b)) mark ∙ ap (λ (x : ℕ). set w (L / 8 % x) (get_or w (L / 8 % x) 0 + 2 ^ (7 - L % 8))) size
 
-    pub one_left : L / 8 % b + 19 ≤ b → (u : List ℕ)
+    one_left : L / 8 % b + 19 ≤ b → (u : List ℕ)
         → u ≡ compressed mode h salt v k (take (block_size mode h - 18) (set w (L / 8 % b) y) ++ lengths_of h L)
         → take (chaining_size mode h) u ≡ final_chaining (made mode h salt v L w)
     one_left fits u e =
         final_one mode h L salt v w lw z (subst (λ (x : ℕ). L / 8 % x + 19 ≤ x) size fits) u
         (e ∙ ap₂ (λ (x : ℕ) (l : List ℕ). compressed mode h salt v x (take (block_size mode h - 18) l ++ lengths_of h L)) counter_is begun_is)
 
-    pub two_left : b < L / 8 % b + 19 → (u l r : List ℕ) → u ≡ compressed mode h salt v k (take (block_size mode h) (set w (L / 8 % b) y))
-        → l ≡ replicate (length (set w (L / 8 % b) y)) 0 → r ≡ compressed mode h salt u 0 (take (block_size mode h - 18) l ++ lengths_of h L)
+    -- t is the session when the first of two blocks is compressed
+    two_left : b < L / 8 % b + 19 → (t : Session) (r : List ℕ)
+        → t ≡ made mode h salt (compressed mode h salt v k (take (block_size mode h) (set w (L / 8 % b) y))) L (set w (L / 8 % b) y)
+        → r ≡ compressed t.mode t.bits t.salt t.chaining 0 (take (block_size t.mode t.bits - 18) (replicate 224 0) ++ lengths_of t.bits t.taken)
         → take (chaining_size mode h) r ≡ final_chaining (made mode h salt v L w)
-    two_left over u l r first zeros second =
+    two_left over t r first second =
         ap (take (chaining_size mode h))
-        (second ∙ ap (λ (x : List ℕ). compressed mode h salt u 0 (take (block_size mode h - 18) x ++ lengths_of h L)) (cleared w l (L / 8 % b) y 224 zeros lw))
-        ∙ final_two mode h L salt v w lw z (subst (λ (x : ℕ). x < L / 8 % x + 19) size over) u
-        (first ∙ ap₂ (λ (x : ℕ) (l : List ℕ). compressed mode h salt v x (take (block_size mode h) l)) counter_is begun_is)
+        (second
+        ∙ ap (λ (u : Session). compressed u.mode u.bits u.salt u.chaining 0 (take (block_size u.mode u.bits - 18) (replicate 224 0) ++ lengths_of u.bits u.taken)) first)
+        ∙ final_two mode h L salt v w lw z (subst (λ (x : ℕ). x < L / 8 % x + 19) size over)
+        (compressed mode h salt v k (take (block_size mode h) (set w (L / 8 % b) y)))
+        (ap₂ (λ (x : ℕ) (l : List ℕ). compressed mode h salt v x (take (block_size mode h) l)) counter_is begun_is)
+
+-- the same of a session
+module _ (s : Session) (b k y : ℕ) (size : b ≡ block_of s) (counter : k ≡ either (eqb (s.taken % (8 * b)) 0) 0 s.taken) (lw : length s.waiting ≡ 224)
+    (z : all_zero (drop (s.taken % (8 * block_of s)) (bits_of s.waiting)) ≡ true) (mark : y ≡ get_or s.waiting (s.taken / 8 % b) 0 + 2 ^ (7 - s.taken % 8)) where
+  pub ends_in_one : s.taken / 8 % b + 19 ≤ b → (u : List ℕ)
+      → u ≡ compressed s.mode s.bits s.salt s.chaining k (take (block_of s - 18) (set s.waiting (s.taken / 8 % b) y) ++ lengths_of s.bits s.taken)
+      → take (chaining_of s) u ≡ final_chaining s
+  unfolding final_chaining
+  ends_in_one = one_left s.mode s.bits s.taken b k size counter s.salt s.chaining s.waiting lw z y mark
+
+  pub ends_in_two : b < s.taken / 8 % b + 19 → (t : Session) (r : List ℕ)
+      → t ≡ made s.mode s.bits s.salt (compressed s.mode s.bits s.salt s.chaining k (take (block_of s) (set s.waiting (s.taken / 8 % b) y))) s.taken (set s.waiting (s.taken / 8 % b) y)
+      → r ≡ compressed t.mode t.bits t.salt t.chaining 0 (take (block_of t - 18) (replicate 224 0) ++ lengths_of t.bits t.taken)
+      → take (chaining_of s) r ≡ final_chaining s
+  unfolding final_chaining
+  ends_in_two = two_left s.mode s.bits s.taken b k size counter s.salt s.chaining s.waiting lw z y mark

@@ -90,14 +90,6 @@ part_placed l w at n h e = record {
         length-append (take at l) rest
         ∙ omega (arith, short, length-append w (drop n (drop at l)), length-drop n (drop at l), length-drop at l)
 
--- ---- room that was cleared after a store
-
-pub cleared : (w z : List ℕ) (i x m : ℕ) → z ≡ replicate (length (set w i x)) 0 → length w ≡ m → z ≡ replicate m 0
-cleared w z i x m e l = e ∙ ap (λ (n : ℕ). replicate n 0) (length-set w i x ∙ l)
-
-pub length_cleared : (w z : List ℕ) (i x m : ℕ) → z ≡ replicate (length (set w i x)) 0 → length w ≡ m → length z ≡ m
-length_cleared w z i x m e l = ap length (cleared w z i x m e l) ∙ length-replicate m 0
-
 -- ---- bytes read from a place on
 
 pub part_bytes : (src r : List ℕ) (at n : ℕ) → r ≡ between at (at + n) src → at + n ≤ length src → r ≡ tab n (λ k. get_or src (at + k) 0)

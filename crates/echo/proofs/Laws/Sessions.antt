@@ -184,9 +184,6 @@ module _ (s : Session) (piece : List ℕ) (count : ℕ) where
     pub adds : s.taken + count ≤ bit_limit
     adds = able.fits
 
-    pub sum_fits : s.taken + count < 2 ^ 64
-    sum_fits = omega (arith, adds)
-
     pub bytes_are : length piece ≡ (count + 7) / 8
     bytes_are = able.sized.size
 
@@ -271,7 +268,7 @@ module _ (s : Session) (room : List ℕ) (a : Bool) (e : a ≡ is_session s) whe
     left_0 l r d = rw (← e, not-false a holds, le-ltb (length room) (s.bits / 8) l) d
 
     -- v is the chaining room when the last blocks are taken: its front is the digest
-    module _ (v : List ℕ) (kept : length v ≡ length s.chaining) (chains : length s.chaining ≡ 128) where
+    module _ (v : List ℕ) (long : length v ≡ 128) where
       pub digest_within : s.bits / 8 ≤ length v
       digest_within = omega (arith, bits_most s a e holds)
 
@@ -288,4 +285,4 @@ module _ (s : Session) (room : List ℕ) (a : Bool) (e : a ≡ is_session s) whe
             left_0 l r
             (placed_front room (take (s.bits / 8) v) r (s.bits / 8) (sym digest_long) l
             (subst (λ (k : ℕ). Placed room 0 (take (s.bits / 8) v) k r) (sym digest_long) P)
-            ∙ ap (λ (d : List ℕ). d ++ drop (s.bits / 8) room) (cut s v (kept ∙ chains) (bits_most s a e holds) f))
+            ∙ ap (λ (d : List ℕ). d ++ drop (s.bits / 8) room) (cut s v long (bits_most s a e holds) f))

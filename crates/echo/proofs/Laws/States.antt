@@ -139,15 +139,17 @@ module _ (mode : Mode) (h : ℕ) (salt v rest : List ℕ) (q : ℕ) where
         full : suc (length xs % b) ≡ b → add_byte (state_from xs) x ≡ state_from (xs ++ x ∷ [])
         full e =
             let f : length xs % b + 1 ≡ b = omega arith in
-            sym (put_full mode h (8 * count xs) (length xs % b) b (byte_place xs) refl (omega arith) x salt _ _
-            (chained (xs ++ x ∷ []) (length (xs ++ x ∷ []) / b) ++ rest) (replicate 224 0)
-            (rw (chained_full xs x f, room_used xs (length xs / b), room_rest xs (length xs / b), stored_full b (block_pos mode h) xs x f 224 block_fits)) refl)
+            sym (put_full (state_from xs) (length xs % b) b (byte_place xs) refl (omega arith) x
+            (made mode h salt (chained (xs ++ x ∷ []) (length (xs ++ x ∷ []) / b) ++ rest) (8 * count xs + 8) (set (state_from xs).waiting (length xs % b) x))
+            (made_eq
+            (rw (chained_full xs x f, room_used xs (length xs / b), room_rest xs (length xs / b), stored_full b (block_pos mode h) xs x f 224 block_fits))
+            refl refl))
             ∙ made_eq refl (sym (count_snoc xs x)) (nothing_waits b (block_pos mode h) xs x f 224)
 
         more : suc (length xs % b) < b → add_byte (state_from xs) x ≡ state_from (xs ++ x ∷ [])
         more e =
             let l : length xs % b + 1 < b = omega arith in
-            sym (put_more mode h (8 * count xs) (length xs % b) b (byte_place xs) refl l x salt _ _)
+            sym (put_more (state_from xs) (length xs % b) b (byte_place xs) refl l x)
             ∙ made_eq (ap (λ (u : List ℕ). u ++ rest) (chained_more xs x l)) (sym (count_snoc xs x)) (stored_more b (block_pos mode h) xs x l 224 block_fits)
 
     pub add_more : (xs ys : List ℕ) → add_bytes (state_from xs) ys ≡ state_from (xs ++ ys)

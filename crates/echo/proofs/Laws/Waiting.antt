@@ -1,5 +1,5 @@
 -- The waiting block of a session: where its next byte stands, a byte and a piece more, and the block compressed. Assumes nothing.
-use Rattle.std.proofs.Common.{◌≡◌, ℕ, zero, suc, ◌+◌, ◌-◌, ◌*◌, ◌/◌, ◌%◌, ◌^◌, ◌<◌, ◌≤◌, Bool, true, false, List, [], ◌∷◌, ◌++◌, length, get_or, take, drop, set, replicate, sym, refl, ap, ◌∙◌, subst, ap₂, add-zero, mod-lt, add-one, arith, drop_of_length-le, length-take-le, drop-cons, get_or-take, eq-eqb, ne_eqb}
+use Rattle.std.proofs.Common.{◌≡◌, ℕ, zero, suc, ◌+◌, ◌-◌, ◌*◌, ◌/◌, ◌%◌, ◌^◌, ◌<◌, ◌≤◌, Bool, true, false, List, [], ◌∷◌, ◌++◌, length, get_or, take, drop, set, replicate, sym, refl, ap, ◌∙◌, subst, ap₂, add-zero, mod-lt, add-one, arith, drop_of_length-le, length-take-le, drop-cons, get_or-take, eq-eqb, ne_eqb, eqb}
 use lib.ListN.{get_or-replicate, length-replicate}
 use lib.Seq.{drop-length}
 use Rattle.aes_round.specs.Bytes.{tab}
@@ -7,30 +7,11 @@ use Rattle.aes_round.proofs.Promises.{is_tab}
 use Rattle.echo.specs.declared.mode.Mode.{Mode}
 use Rattle.echo.specs.declared.session.Session.{Session}
 use Rattle.echo.specs.Compression.{compress}
-use Rattle.echo.specs.Families.{block_size, chaining_size, round_count}
-use Rattle.echo.specs.Session.{add_bits, add_byte, add_bytes, add_part, all_zero, compressed, made}
+use Rattle.echo.specs.Families.{block_size, chaining_size, either, round_count}
+use Rattle.echo.specs.Session.{add_bits, add_byte, add_bytes, add_part, bit_limit, block_of, compressed, filled_by, longer_by, made}
 use Rattle.echo.specs.Square.{keys_from}
 use Rattle.echo.proofs.Laws.Counting.{mod_full, mod_more}
 use Rattle.echo.proofs.Laws.Families.{block_pos, sizes}
-
--- ---- zeros
-
-pub zeros_are : (n : ℕ) → tab n (λ k. 0) ≡ replicate n 0
-zeros_are n = sym (is_tab n (replicate n 0) _ (length-replicate n 0) (λ k h. get_or-replicate n k 0 0 h))
-
--- r is whether the bytes from a place on are zero
-module _ (xs : List ℕ) (i : ℕ) (r : Bool) (e : all_zero (drop i xs) ≡ r) where
-  pub zero_next : i < length xs → get_or xs i 0 ≡ 0 → all_zero (drop (i + 1) xs) ≡ r
-  unfolding all_zero
-  zero_next h z = sym (rw (add-one, drop-cons xs i 0 h, eq-eqb _ _ z)) ∙ e
-
-  pub zero_stop : i < length xs → (get_or xs i 0 ≡ 0 → ⊥) → false ≡ r
-  unfolding all_zero
-  zero_stop h z = sym (rw (drop-cons xs i 0 h, ne_eqb _ _ z)) ∙ e
-
-  pub zero_end : length xs ≤ i → i ≤ length xs → true ≡ r
-  unfolding all_zero
-  zero_end h k = let l : i ≡ length xs = omega arith in sym (rw (l, drop-length)) ∙ e
 
 -- ---- the place of the next byte; b is a block size that the code computed
 
@@ -44,150 +25,122 @@ pub block_bits_fit : (mode : Mode) (h b : ℕ) → b ≡ block_size mode h → 8
 block_bits_fit mode h b size = let S = sizes mode h in omega arith
 
 module _ (mode : Mode) (h L at : ℕ) (place : at ≡ L / 8 % block_size mode h) where
-  place_small : at < 224
+  pub place_small : at < 224
   place_small = let S = sizes mode h in omega (arith, mod-lt (L / 8) (block_pos mode h))
-
-  pub next_fits : at + 1 < 2 ^ 64
-  next_fits = omega (arith, place_small)
-
-  pub place_within : (w : List ℕ) → length w ≡ 224 → at < length w
-  place_within w lw = omega (arith, place_small)
 
 -- the same of a place that the code computed
 module _ (mode : Mode) (h L b : ℕ) (size : b ≡ block_size mode h) where
-  same_place : L / 8 % b ≡ L / 8 % block_size mode h
+  pub same_place : L / 8 % b ≡ L / 8 % block_size mode h
   same_place = ap (λ (x : ℕ). L / 8 % x) size
 
-  pub padding_fits : L / 8 % b + 19 < 2 ^ 64
-  padding_fits = omega (arith, place_small mode h L (L / 8 % b) same_place)
-
-  pub place_in : (w : List ℕ) → length w ≡ 224 → L / 8 % b < length w
-  place_in = place_within mode h L (L / 8 % b) same_place
+  pub place_in : L / 8 % b < 224
+  place_in = place_small mode h L (L / 8 % b) same_place
 
 -- ---- one byte more, at its place
 
-module _ (mode : Mode) (bits taken at b : ℕ) (place : at ≡ taken / 8 % block_size mode bits) (size : b ≡ block_size mode bits) where
-  next_byte : (taken + 8) / 8 ≡ taken / 8 + 1
+module _ (s : Session) (at b : ℕ) (place : at ≡ s.taken / 8 % block_of s) (size : b ≡ block_of s) where
+  next_byte : (s.taken + 8) / 8 ≡ s.taken / 8 + 1
   next_byte = omega arith
 
   -- a byte that waits
   module _ (h : at + 1 < b) where
-    waits : taken / 8 % block_size mode bits + 1 < block_size mode bits
+    waits : s.taken / 8 % block_of s + 1 < block_of s
     waits = omega arith
 
-    pub next_place : at + 1 ≡ (taken + 8) / 8 % block_size mode bits
+    pub next_place : at + 1 ≡ (s.taken + 8) / 8 % block_of s
     next_place =
         ap (λ (n : ℕ). n + 1) place
-        ∙ sym (ap (λ (n : ℕ). n % block_size mode bits) next_byte ∙ mod_more (block_size mode bits) (block_pos mode bits) (taken / 8) waits)
+        ∙ sym (ap (λ (n : ℕ). n % block_of s) next_byte ∙ mod_more (block_of s) (block_pos s.mode s.bits) (s.taken / 8) waits)
 
-    pub put_more : (x : ℕ) (salt v w : List ℕ) → made mode bits salt v (taken + 8) (set w at x) ≡ add_byte (made mode bits salt v taken w) x
+    pub put_more : (x : ℕ) → made s.mode s.bits s.salt s.chaining (s.taken + 8) (set s.waiting at x) ≡ add_byte s x
     unfolding add_byte
-    put_more x salt v w = rw (place, ne_eqb (taken / 8 % block_size mode bits + 1) (block_size mode bits) (λ p. omega (arith, waits)))
+    put_more x = rw (place, ne_eqb (s.taken / 8 % block_of s + 1) (block_of s) (λ p. omega (arith, waits)))
 
-  -- a byte that fills the block
-  module _ (h : b ≤ at + 1) where
-    fills : taken / 8 % block_size mode bits + 1 ≡ block_size mode bits
-    fills = omega (arith, mod-lt (taken / 8) (block_pos mode bits))
+  -- a byte that fills the block: t is the session when it is compressed
+  module _ (h : b ≤ at + 1) (x : ℕ) (t : Session)
+      (e : t ≡ made s.mode s.bits s.salt (compressed s.mode s.bits s.salt s.chaining (s.taken + 8) (take (block_of s) (set s.waiting at x))) (s.taken + 8) (set s.waiting at x)) where
+    fills : s.taken / 8 % block_of s + 1 ≡ block_of s
+    fills = omega (arith, mod-lt (s.taken / 8) (block_pos s.mode s.bits))
 
-    pub first_place : 0 ≡ (taken + 8) / 8 % block_size mode bits
-    first_place = sym (ap (λ (n : ℕ). n % block_size mode bits) next_byte ∙ mod_full (block_size mode bits) (block_pos mode bits) (taken / 8) fills)
+    pub first_place : 0 ≡ t.taken / 8 % block_of t
+    first_place =
+        sym (ap (λ (u : Session). u.taken / 8 % block_of u) e ∙ ap (λ (n : ℕ). n % block_of s) next_byte
+        ∙ mod_full (block_of s) (block_pos s.mode s.bits) (s.taken / 8) fills)
 
-    pub put_full : (x : ℕ) (salt v w u z : List ℕ) → u ≡ compressed mode bits salt v (taken + 8) (take (block_size mode bits) (set w at x))
-        → z ≡ replicate 224 0 → made mode bits salt u (taken + 8) z ≡ add_byte (made mode bits salt v taken w) x
+    pub put_full : made t.mode t.bits t.salt t.chaining t.taken (replicate 224 0) ≡ add_byte s x
     unfolding add_byte
-    put_full x salt v w u z p q = rw (p, q, place, eq-eqb (taken / 8 % block_size mode bits + 1) (block_size mode bits) fills)
+    put_full =
+        ap (λ (u : Session). made u.mode u.bits u.salt u.chaining u.taken (replicate 224 0)) e
+        ∙ rw (place, eq-eqb (s.taken / 8 % block_of s + 1) (block_of s) fills)
+
+byte_taken : (s : Session) (x : ℕ) → (add_byte s x).taken ≡ s.taken + 8
+unfolding add_byte
+byte_taken s x = by (eqb (s.taken / 8 % block_of s + 1) (block_of s))
+  where
+    by : (t : Bool) → (either t (filled_by s x) (longer_by s x 8)).taken ≡ s.taken + 8
+    by true = refl
+    by false = refl
 
 -- ---- a piece, byte by byte
 
--- i of the n whole bytes of a piece are taken: v and w are the rooms then, and `at` the place of the next byte
-pub record Absorbed (mode : Mode) (bits taken : ℕ) (salt v₀ w₀ piece : List ℕ) (n i : ℕ) (v w : List ℕ) (at : ℕ) : Type 0 where
+-- i of the n whole bytes of a piece are taken: s is the session then, and `at` the place of the next byte
+pub record Absorbed (s₀ : Session) (piece : List ℕ) (n i : ℕ) (s : Session) (at : ℕ) : Type 0 where
   pub within : i ≤ n
-  pub chains : length v ≡ 128
-  pub waits : length w ≡ 224
-  pub place : at ≡ (taken + 8 * i) / 8 % block_size mode bits
-  pub leads : add_bytes (made mode bits salt v (taken + 8 * i) w) (drop i (take n piece)) ≡ add_bytes (made mode bits salt v₀ taken w₀) (take n piece)
+  pub taken : s.taken ≡ s₀.taken + 8 * i
+  pub place : at ≡ s.taken / 8 % block_of s
+  pub leads : add_bytes s (drop i (take n piece)) ≡ add_bytes s₀ (take n piece)
 
-module _ (mode : Mode) (bits taken : ℕ) (salt v₀ w₀ piece : List ℕ) (n : ℕ) where
-  pub absorb_none : (b : ℕ) → b ≡ block_size mode bits → length v₀ ≡ 128 → length w₀ ≡ 224
-      → Absorbed mode bits taken salt v₀ w₀ piece n 0 v₀ w₀ (taken / 8 % b)
-  absorb_none b size lv lw = record {
-    within = omega arith;
-    chains = lv;
-    waits = lw;
-    place = ap₂ (λ (k x : ℕ). k / 8 % x) (sym (add-zero taken)) size;
-    leads = ap (λ (k : ℕ). add_bytes (made mode bits salt v₀ k w₀) (take n piece)) (add-zero taken);
-  }
+module _ (s₀ : Session) (piece : List ℕ) (n : ℕ) where
+  pub absorb_none : (b : ℕ) → b ≡ block_of s₀ → Absorbed s₀ piece n 0 s₀ (s₀.taken / 8 % b)
+  absorb_none b size = record { within = omega arith; taken = sym (add-zero s₀.taken); place = ap (λ (x : ℕ). s₀.taken / 8 % x) size; leads = refl }
 
-  module _ (i : ℕ) (v w : List ℕ) (at : ℕ) (A : Absorbed mode bits taken salt v₀ w₀ piece n i v w at) where
-    pub absorb_more : i < n → (count : ℕ) → n ≡ count / 8 → length piece ≡ (count + 7) / 8 → (v' w' : List ℕ) (at' : ℕ)
-        → length v' ≡ length v → length w' ≡ length w
-        → at' ≡ (taken + 8 * i + 8) / 8 % block_size mode bits
-        → made mode bits salt v' (taken + 8 * i + 8) w' ≡ add_byte (made mode bits salt v (taken + 8 * i) w) (get_or piece i 0)
-        → Absorbed mode bits taken salt v₀ w₀ piece n (i + 1) v' w' at'
+  module _ (i : ℕ) (s : Session) (at : ℕ) (A : Absorbed s₀ piece n i s at) where
+    -- one more is within the limit
+    pub absorb_room : (count : ℕ) → n ≡ count / 8 → s₀.taken + count ≤ bit_limit → i < n → s.taken + 8 ≤ bit_limit
+    absorb_room count whole fits h = omega (arith, A.taken)
+
+    pub absorb_more : n ≤ length piece → i < length (take n piece) → (x at' : ℕ) (t : Session) → x ≡ get_or (take n piece) i 0 → t ≡ add_byte s x → at' ≡ t.taken / 8 % block_of t
+        → Absorbed s₀ piece n (i + 1) t at'
     unfolding add_bytes
-    absorb_more h count whole size v' w' at' lv lw p e =
-        let few : n ≤ length piece = omega arith in
-        let on : taken + 8 * i + 8 ≡ taken + 8 * (i + 1) = omega arith in
-        let inside : i < length (take n piece) = omega (arith, length-take-le n piece few) in
-        let here : drop i (take n piece) ≡ get_or piece i 0 ∷ drop (i + 1) (take n piece) =
-        drop-cons (take n piece) i 0 inside
-        ∙ ap₂ (λ (x k : ℕ). x ∷ drop k (take n piece)) (get_or-take n piece i 0 h) (sym (add-one i)) in
+    absorb_more few inside x at' t here e p =
+        let rest : drop i (take n piece) ≡ x ∷ drop (i + 1) (take n piece) =
+        drop-cons (take n piece) i 0 inside ∙ ap₂ (λ (y k : ℕ). y ∷ drop k (take n piece)) (sym here) (sym (add-one i)) in
         record {
-          within = omega arith;
-          chains = lv ∙ A.chains;
-          waits = lw ∙ A.waits;
-          place = p ∙ ap (λ (k : ℕ). k / 8 % block_size mode bits) on;
-          leads =
-              ap (λ (k : ℕ). add_bytes (made mode bits salt v' k w') (drop (i + 1) (take n piece))) (sym on)
-              ∙ ap (λ (s : Session). add_bytes s (drop (i + 1) (take n piece))) e
-              ∙ sym (ap (add_bytes (made mode bits salt v (taken + 8 * i) w)) here)
-              ∙ A.leads;
+          within = omega (arith, length-take-le n piece few);
+          taken = ap (λ (u : Session). u.taken) e ∙ byte_taken s x ∙ omega (arith, A.taken);
+          place = p;
+          leads = ap (λ (u : Session). add_bytes u (drop (i + 1) (take n piece))) e ∙ sym (ap (add_bytes s) rest) ∙ A.leads;
         }
 
     -- all of them
-    module _ (h : n ≤ i) (few : n ≤ length piece) where
-      absorb_all : made mode bits salt v (taken + 8 * n) w ≡ add_bytes (made mode bits salt v₀ taken w₀) (take n piece)
+    module _ (h : n ≤ i) (count : ℕ) (whole : n ≡ count / 8) (size : length piece ≡ (count + 7) / 8) where
+      absorb_all : s ≡ add_bytes s₀ (take (count / 8) piece)
       unfolding add_bytes
       absorb_all =
           let e : i ≡ n = omega (arith, A.within) in
-          let short : length (take n piece) ≤ n = omega (arith, length-take-le n piece few) in
+          let short : length (take n piece) ≤ n = omega (arith, length-take-le n piece (omega arith)) in
           let none : drop n (take n piece) ≡ [] = drop_of_length-le (take n piece) short in
-          ap (λ (k : ℕ). made mode bits salt v (taken + 8 * k) w) (sym e)
-          ∙ sym (ap (add_bytes (made mode bits salt v (taken + 8 * i) w)) (ap (λ (k : ℕ). drop k (take n piece)) e ∙ none))
-          ∙ A.leads
+          sym (ap (add_bytes s) (ap (λ (k : ℕ). drop k (take n piece)) e ∙ none)) ∙ A.leads ∙ ap (λ (k : ℕ). add_bytes s₀ (take k piece)) whole
 
--- so many bits of a piece: the n whole bytes are taken, and then the part byte
-pub part_inside : (piece : List ℕ) (count n : ℕ) → n ≡ count / 8 → length piece ≡ (count + 7) / 8 → (count % 8 ≡ 0 → ⊥) → n < length piece
-part_inside piece count n whole few some = by (count % 8) refl
-  where
-    by : (r : ℕ) → count % 8 ≡ r → n < length piece
-    by zero e = absurd (some e)
-    by (suc r) e = omega arith
+      pub absorb_whole : count % 8 ≡ 0 → s ≡ add_bits s₀ piece count
+      unfolding add_bits add_part
+      absorb_whole none = absorb_all ∙ rw (eq-eqb (count % 8) 0 none)
 
-module _ (mode : Mode) (bits taken : ℕ) (salt v₀ w₀ piece : List ℕ) (count n i : ℕ) (v w : List ℕ) (at : ℕ) (whole : n ≡ count / 8)
-    (A : Absorbed mode bits taken salt v₀ w₀ piece n i v w at) (h : n ≤ i) (few : length piece ≡ (count + 7) / 8) where
-  whole_bytes : add_bytes (made mode bits salt v₀ taken w₀) (take (count / 8) piece) ≡ made mode bits salt v (taken + 8 * n) w
-  whole_bytes =
-      sym (absorb_all mode bits taken salt v₀ w₀ piece n i v w at A h (omega arith)
-      ∙ ap (λ (k : ℕ). add_bytes (made mode bits salt v₀ taken w₀) (take k piece)) whole)
+      -- and the part byte
+      module _ (some : count % 8 ≡ 0 → ⊥) where
+        pub part_inside : n < length piece
+        part_inside = by (count % 8) refl
+          where
+            by : (r : ℕ) → count % 8 ≡ r → n < length piece
+            by zero e = absurd (some e)
+            by (suc r) e = omega arith
 
-  pub absorb_whole : count % 8 ≡ 0 → made mode bits salt v (taken + count) w ≡ add_bits (made mode bits salt v₀ taken w₀) piece count
-  unfolding add_bits add_part
-  absorb_whole none =
-      let e : taken + count ≡ taken + 8 * n = omega arith in
-      rw (whole_bytes, eq-eqb (count % 8) 0 none, e)
+        pub part_fits : s₀.taken + count ≤ bit_limit → s.taken + count % 8 < 2 ^ 64
+        part_fits fits = omega (arith, A.taken)
 
-  pub absorb_part : (count % 8 ≡ 0 → ⊥)
-      → made mode bits salt v (taken + count) (set w at (get_or piece n 0)) ≡ add_bits (made mode bits salt v₀ taken w₀) piece count
-  unfolding add_bits add_part
-  absorb_part some =
-      let e : taken + count ≡ taken + 8 * n + count % 8 = omega arith in
-      let i-is : i ≡ n = omega (arith, A.within) in
-      let here : at ≡ (taken + 8 * n) / 8 % block_size mode bits = A.place ∙ ap (λ (k : ℕ). (taken + 8 * k) / 8 % block_size mode bits) i-is in
-      rw (whole_bytes, ne_eqb (count % 8) 0 some, e, here, whole)
-
-  pub part_within : at < length w
-  part_within = let S = sizes mode bits in omega (arith, A.place, A.waits, mod-lt ((taken + 8 * i) / 8) (block_pos mode bits))
+        pub absorb_part : made s.mode s.bits s.salt s.chaining (s.taken + count % 8) (set s.waiting at (get_or piece n 0)) ≡ add_bits s₀ piece count
+        unfolding add_bits add_part
+        absorb_part = rw (← absorb_all, ne_eqb (count % 8) 0 some, A.place, whole)
 
 -- ---- the waiting block compressed, by sizes c and b and a round count n that the code computed
 
@@ -222,3 +175,12 @@ module _ (mode : Mode) (bits c : ℕ) (p : c ≡ chaining_size mode bits) where
           ap (λ (l : List ℕ). l ++ drop c v)
           (e ∙ ap₂ (λ (x y : ℕ). compress x y (keys_from counter) salt (take c v) (take b w)) (sym lent_chaining) r)
           ∙ ap₂ (λ (x y : ℕ). compress x (round_count mode x) (keys_from counter) salt (take x v) (take y w) ++ drop x v) p q
+
+      pub compress_made : (counter n : ℕ) → n ≡ round_count mode c → (salt last : List ℕ) (taken : ℕ)
+          → last ≡ compress (length (take c v)) n (keys_from counter) salt (take c v) (take b w)
+          → made mode bits salt (last ++ drop c v) taken w ≡ made mode bits salt (compressed mode bits salt v counter (take (block_size mode bits) w)) taken w
+      compress_made counter n r salt last taken e = ap (λ (x : List ℕ). made mode bits salt x taken w) (lent_compressed counter n r salt last e)
+
+-- the block is within the waiting room
+pub block_within : (mode : Mode) (bits b : ℕ) → b ≡ block_size mode bits → b ≤ 224
+block_within mode bits b q = let S = sizes mode bits in omega arith

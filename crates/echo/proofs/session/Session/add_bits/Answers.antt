@@ -1,5 +1,5 @@
 -- `add_bits` meets its contract: a refusal, or the bits taken in. Assumes nothing.
-use Rattle.echo.proofs.Laws.Sessions.{added, adds, bytes_are, not_added, sum_fits}
+use Rattle.echo.proofs.Laws.Sessions.{added, adds, bytes_are, not_added}
 use Rattle.echo.proofs.session.Session.add_bits.Goals as goal
 
 pub returns-in-Err : goal.returns-in-Err
@@ -10,9 +10,6 @@ absorb-requires-clause-piece_len c = search (bytes_are, c.in_default.ensures)
 
 pub absorb-requires-clause-count_bound : goal.absorb-requires-clause-count_bound
 absorb-requires-clause-count_bound c = search (adds, c.in_default.ensures)
-
-pub overflow_add-added : goal.overflow_add-added
-overflow_add-added c = search (sum_fits, c.in_default.ensures)
 
 pub returns : goal.returns
 returns c = search (added, c.in_default.ensures)

@@ -1,3 +1,4 @@
+pub mod Answers
 pub mod Same
 pub mod KeyBlock
 pub mod Keys

@@ -16,9 +16,9 @@ use Rattle.echo.specs.Pieces.{joined}
 use Rattle.echo.specs.Session.{add_bytes, admitted, bit_limit, is_session, limit, session_digest}
 use Rattle.echo.proofs.Promises.{add_counts, add_is_session, add_keeps, digest_long, done, double_block, joined_lengths, joined_more, joined_none}
 use Rattle.echo.proofs.Theorems.{admitted_exactly}
-use Rattle.hmac.specs.declared.at_once.Verdict.{Verdict}
-use Rattle.hmac.specs.declared.tag_session.Checking.{Checking}
-use Rattle.hmac.specs.declared.tag_session.TagAnswer.{TagAnswer}
+use Rattle.hmac.specs.Answers.{Verdict}
+use Rattle.hmac.specs.Answers.{Checking}
+use Rattle.hmac.specs.Answers.{TagAnswer}
 use Rattle.hmac.specs.declared.tag_session.TagSession.{TagSession}
 use Rattle.hmac.specs.DoublePipe.{block_size, digest_of}
 use Rattle.hmac.specs.Hmac.{key_block, tag_of}

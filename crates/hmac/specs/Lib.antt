@@ -2,6 +2,7 @@
 pub mod DoublePipe
 pub mod Hmac
 pub mod Same
+pub mod Answers
 pub mod TagSession
 pub mod Routines
 pub mod TagPieces

@@ -2,7 +2,7 @@
 use Rattle.std.specs.Prelude.{Bool, false, not, ◌||◌, List, [], ◌∷◌, ◌++◌, ℕ, ◌+◌, ◌/◌, ltb, drop, length}
 use Rattle.echo.specs.Refusals.{◌when◌, first_of, no_salt, unless}
 use Rattle.echo.specs.Session.{admitted, limit}
-use Rattle.hmac.specs.declared.at_once.Verdict.{Verdict}
+use Rattle.hmac.specs.Answers.{Verdict}
 use Rattle.hmac.specs.DoublePipe.{block_size}
 use Rattle.hmac.specs.Hmac.{tag_of}
 use Rattle.hmac.specs.Same.{same}

@@ -4,8 +4,8 @@ use Rattle.aes_round.specs.Bytes.{xor_bytes}
 use Rattle.echo.specs.declared.session.Session.{Session}
 use Rattle.echo.specs.Refusals.{◌when◌, first_of, no_salt, unless}
 use Rattle.echo.specs.Session.{add_bytes, admitted, bit_limit, blank, is_session, limit, session_digest}
-use Rattle.hmac.specs.declared.tag_session.Checking.{Checking}
-use Rattle.hmac.specs.declared.tag_session.TagAnswer.{TagAnswer}
+use Rattle.hmac.specs.Answers.{Checking}
+use Rattle.hmac.specs.Answers.{TagAnswer}
 use Rattle.hmac.specs.declared.tag_session.TagSession.{TagSession}
 use Rattle.hmac.specs.DoublePipe.{block_size, digest_of, is_double_pipe, opened}
 use Rattle.hmac.specs.Hmac.{ipad, key_block, opad}

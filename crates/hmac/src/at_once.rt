@@ -1,71 +1,90 @@
 // Tags of whole messages.
 ghost use Rattle.std.specs.Prelude.{◌≡◌, length};
+ghost use Rattle.echo.specs.Answers.{refusal_of};
+ghost use Rattle.hmac.specs.Answers.{unverified_number, verdict_of, verification_of};
 ghost use Rattle.hmac.specs.Routines.{check_answer, make_leaves, make_refusal, verify_refusal};
+ghost use Rattle.hmac.specs.declared.at_once.Unverified.TheVariants.{Refused};
 
 use super::tag_session::TagSession;
+use echo::Refusal;
 
-// What a check at once answers: a refusal number, 0 for none, and whether the tag is right.
-#[derive(Clone, Copy)]
-pub struct Verdict {
-    pub refusal: u8,
-    pub yes: bool,
+// Why a tag is not verified.
+#[derive(Clone, Copy, PartialEq, Eq, Debug)]
+pub enum Unverified {
+    // the check is refused
+    Refused(Refusal),
+    // the tag is not that of the message, all of it and nothing else
+    WrongTag,
 }
 
-// Puts the tag of the message at the front of `out`, whose bytes behind it stay, and answers 0; or refuses by 1, 2, 4 or 5 and writes nothing.
-pub fn make_tag(bits: u64, salt: &[u8], key: &[u8], message: &[u8], out: &mut [u8]) -> u8
-    ensures refusal { result ≡ make_refusal bits (length salt.now) (length key.now) (length message.now) (length out.old) }
+impl From<Refusal> for Unverified {
+    ghost from_gives = { λ refusal unverified. unverified ≡ Refused refusal };
+
+    fn from(refusal: Refusal) -> Unverified {
+        Unverified::Refused(refusal)
+    }
+}
+
+impl Unverified {
+    // The number that C has for it, where 0 is none.
+    pub fn number(self) -> u8
+        ensures { result ≡ unverified_number self }
+    {
+        match self {
+            Unverified::Refused(refusal) => refusal.number(),
+            Unverified::WrongTag => 19,
+        }
+    }
+}
+
+// Puts the tag of the message at the front of `out`, whose bytes behind it stay. Refused as `NotAdmitted`, `NoSalt`, `TooLong` or `NoRoom`, it
+// writes nothing.
+pub fn make_tag(
+    bits: u64,
+    salt: &[u8],
+    key: &[u8],
+    message: &[u8],
+    out: &mut [u8],
+) -> Result<(), Refusal>
+    ensures refusal { refusal_of result ≡ make_refusal bits (length salt.now) (length key.now) (length message.now) (length out.old) }
     ensures left { out.new ≡ make_leaves bits salt.now key.now message.now out.old }
 {
-    let opening = TagSession::open(bits, salt, key);
-    let not_opened = opening.refusal;
-    if not_opened != 0 {
-        return not_opened;
-    }
-    let adding = opening.session.add(message);
-    let not_added = adding.refusal;
-    if not_added != 0 {
-        return not_added;
-    }
-    let reading = adding.session.read(out);
-    reading.refusal
+    let opened = TagSession::open(bits, salt, key)?;
+    let whole = opened.add(message)?;
+    whole.read(out)?;
+    Ok(())
 }
 
-// Whether the tag is that of the message, all of it and nothing else; or no, with a refusal by 1, 2 or 4. A refusal of 0 does not say that the
-// tag is right: `yes` does.
-pub fn check_tag(bits: u64, salt: &[u8], key: &[u8], message: &[u8], tag: &[u8]) -> Verdict
-    ensures { result ≡ check_answer bits salt.now key.now message.now tag.now }
+// Whether the tag is that of the message, all of it and nothing else. Refused as `NotAdmitted`, `NoSalt` or `TooLong`.
+pub fn check_tag(
+    bits: u64,
+    salt: &[u8],
+    key: &[u8],
+    message: &[u8],
+    tag: &[u8],
+) -> Result<bool, Refusal>
+    ensures { verdict_of result ≡ check_answer bits salt.now key.now message.now tag.now }
 {
-    let opening = TagSession::open(bits, salt, key);
-    let not_opened = opening.refusal;
-    if not_opened != 0 {
-        return Verdict {
-            refusal: not_opened,
-            yes: false,
-        };
-    }
-    let adding = opening.session.add(message);
-    let not_added = adding.refusal;
-    if not_added != 0 {
-        return Verdict {
-            refusal: not_added,
-            yes: false,
-        };
-    }
-    let checking = adding.session.check(tag);
-    Verdict {
-        refusal: checking.refusal,
-        yes: checking.yes,
-    }
+    let opened = TagSession::open(bits, salt, key)?;
+    let whole = opened.add(message)?;
+    let checked = whole.check(tag)?;
+    Ok(checked.yes)
 }
 
-// 0 where the tag is that of the message, all of it and nothing else, and there alone; or a refusal by 1, 2 or 4, or by 19 for any other tag.
-pub fn verify_tag(bits: u64, salt: &[u8], key: &[u8], message: &[u8], tag: &[u8]) -> u8
-    ensures { result ≡ verify_refusal bits salt.now key.now message.now tag.now }
+// `Ok` where the tag is that of the message, all of it and nothing else, and there alone.
+pub fn verify_tag(
+    bits: u64,
+    salt: &[u8],
+    key: &[u8],
+    message: &[u8],
+    tag: &[u8],
+) -> Result<(), Unverified>
+    ensures { verification_of result ≡ verify_refusal bits salt.now key.now message.now tag.now }
 {
-    let verdict = check_tag(bits, salt, key, message, tag);
-    let refused = verdict.refusal;
-    if refused != 0 {
-        return refused;
+    let right = check_tag(bits, salt, key, message, tag)?;
+    if right {
+        Ok(())
+    } else {
+        Err(Unverified::WrongTag)
     }
-    if verdict.yes { 0 } else { 19 }
 }

@@ -1,19 +1,13 @@
 // The key as one block, and digest sessions that begin with it.
-ghost use Rattle.std.specs.Prelude.{true, ◌≡◌, ltb, length, replicate, take};
+ghost use Rattle.std.specs.Prelude.{true, ◌≡◌, ltb, IfOk, length, replicate, take};
 ghost use Rattle.aes_round.specs.Bytes.{xor_bytes};
+ghost use Rattle.echo.specs.Answers.{refusal_of};
 ghost use Rattle.echo.specs.Families.{either};
 ghost use Rattle.echo.specs.Session.{add_bytes, admitted, is_session, limit};
 ghost use Rattle.hmac.specs.DoublePipe.{block_size, digest_of};
 ghost use Rattle.hmac.specs.Hmac.{key_block};
 
-use echo::{Mode, Session};
-
-// A refusal number, 0 for none, and K0 at the front of room for either family's block.
-#[derive(Clone, Copy)]
-pub(crate) struct KeyBlock {
-    pub refusal: u8,
-    pub bytes: [u8; 192],
-}
+use echo::{Mode, Refusal, Session};
 
 // The block size of a digest length in double-pipe.
 pub(crate) fn block_size(bits: u64) -> usize
@@ -22,29 +16,24 @@ pub(crate) fn block_size(bits: u64) -> usize
     if bits <= 256 { 192 } else { 128 }
 }
 
-// K0, which is the key, or the digest of a key longer than a block; or 4 where the key passes the limit.
-pub(crate) fn key_block(bits: u64, salt: &[u8], key: &[u8]) -> KeyBlock
+// K0, which is the key, or the digest of a key longer than a block, at the front of room for either family's block. Refused as `TooLong` where the
+// key passes the limit.
+pub(crate) fn key_block(bits: u64, salt: &[u8], key: &[u8]) -> Result<[u8; 192], Refusal>
     requires bits_value { admitted bits ≡ true }
     requires salt_len { length salt.now ≡ 16 }
-    ensures refusal_value { result.refusal ≡ either (ltb limit (length key.now)) 4 0 }
-    ensures bytes_value { result.refusal ≡ 0 → take (block_size bits) result.bytes ≡ key_block (digest_of bits salt.now) (block_size bits) key.now }
+    ensures refusal_value { refusal_of result ≡ either (ltb limit (length key.now)) 4 0 }
+    ensures bytes_value { IfOk result (λ block. take (block_size bits) block ≡ key_block (digest_of bits salt.now) (block_size bits) key.now) }
 {
-    let n = key.len();
     let mut block = [0u8; 192];
+    let n = key.len();
     if block_size(bits) < n {
-        let refusal = echo::digest(Mode::DoublePipe, bits, salt, key, &mut block);
-        return KeyBlock {
-            refusal: refusal,
-            bytes: block,
-        };
+        echo::digest(Mode::DoublePipe, bits, salt, key, &mut block)?;
+        return Ok(block);
     }
     for i in 0..n {
         block[i] = key[i];
     }
-    KeyBlock {
-        refusal: 0,
-        bytes: block,
-    }
+    Ok(block)
 }
 
 // A digest session to which K0, at the front of `block`, was added, xored with a pad of one byte repeated.
@@ -58,6 +47,5 @@ pub(crate) fn keyed(fresh: Session, block: [u8; 192], pad: u8) -> Session
     for i in 0..b {
         padded[i] = block[i] ^ pad;
     }
-    let adding = fresh.add(&padded[..b]);
-    adding.session
+    fresh.add(&padded[..b]).unwrap()
 }

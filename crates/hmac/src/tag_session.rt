@@ -1,11 +1,13 @@
 // Tag sessions: a tag over the pieces of a message.
-ghost use Rattle.std.specs.Prelude.{true, ◌≡◌, length};
-ghost use Rattle.hmac.specs.TagSession.{add_tag_answer, check_tag_answer, closed_by, counts_fit, is_tag_session, open_tag_answer, read_tag_answer, read_tag_leaves, refused_tag};
+ghost use Rattle.std.specs.Prelude.{true, ◌≡◌, IfOk, length};
+ghost use Rattle.echo.specs.Answers.{refusal_of};
+ghost use Rattle.hmac.specs.Answers.{checking_of, tag_answer_of};
+ghost use Rattle.hmac.specs.TagSession.{add_tag_answer, blank_tag, check_tag_answer, closed_by, counts_fit, is_tag_session, open_tag_answer, open_tag_refusal};
+ghost use Rattle.hmac.specs.TagSession.{opened_tag, read_tag_answer, read_tag_leaves};
 
 use super::comparison::same;
-use super::double_pipe::is_double_pipe;
 use super::key_block::{block_size, key_block, keyed};
-use echo::{Mode, Session};
+use echo::{Mode, Refusal, Session};
 
 // A tag that is under way. It is passed by value, and each call hands it back. It is worth as much as its key: whoever reads it can make tags.
 #[derive(Clone, Copy)]
@@ -16,17 +18,24 @@ pub struct TagSession {
     pub outer: Session,
 }
 
-// What a call answers: a refusal number, 0 for none, and the session.
+// Why a call is refused, and the session as it came.
 #[derive(Clone, Copy)]
-pub struct TagAnswer {
-    pub refusal: u8,
+pub struct RefusedTag {
+    pub refusal: Refusal,
     pub session: TagSession,
 }
 
-// What a check answers: a refusal number, 0 for none, whether the tag is right, and the session.
+impl From<RefusedTag> for Refusal {
+    ghost from_gives = { λ refused refusal. refusal ≡ refused.refusal };
+
+    fn from(refused: RefusedTag) -> Refusal {
+        refused.refusal
+    }
+}
+
+// Whether a tag is right, and the session as it came.
 #[derive(Clone, Copy)]
-pub struct Checking {
-    pub refusal: u8,
+pub struct Checked {
     pub yes: bool,
     pub session: TagSession,
 }
@@ -46,46 +55,48 @@ fn counts_fit(inner: u64, outer: u64, bits: u64) -> bool
 }
 
 impl TagSession {
-    // A refusal of an opening: two blank sessions, which are no tag session. A refused opening of a digest hands a blank one out, and no digest has
-    // 0 bits.
-    fn refused(number: u8) -> TagAnswer
-        ensures { result ≡ refused_tag number }
+    // Two blank sessions, which are no tag session. A refused opening of a digest hands a blank one out, and no digest has 0 bits.
+    fn blank() -> TagSession
+        ensures { result ≡ blank_tag }
     {
-        let opening = Session::open(Mode::DoublePipe, 0, b"");
-        let none = opening.session;
-        TagAnswer {
-            refusal: number,
-            session: TagSession {
-                inner: none,
-                outer: none,
-            },
+        let none = Session::open(Mode::DoublePipe, 0, b"").unwrap_err().session;
+        TagSession {
+            inner: none,
+            outer: none,
         }
     }
 
-    // A session for tags of so many bits under a salt and a key; or the blank one with 1 (bits not admitted), 2 (salt not 16 bytes) or 4 (key
-    // too long).
-    pub fn open(bits: u64, salt: &[u8], key: &[u8]) -> TagAnswer
-        ensures { result ≡ open_tag_answer bits salt.now key.now }
+    // Itself, handed back as it came.
+    fn refused(self, refusal: Refusal) -> RefusedTag
+        ensures { result ≡ record { refusal = refusal; session = self } }
     {
-        let opening = Session::open(Mode::DoublePipe, bits, salt);
-        let not_opened = opening.refusal;
-        if not_opened != 0 {
-            return TagSession::refused(not_opened);
+        RefusedTag {
+            refusal,
+            session: self,
         }
-        let k0 = key_block(bits, salt, key);
-        let too_long = k0.refusal;
-        if too_long != 0 {
-            return TagSession::refused(too_long);
-        }
-        let block = k0.bytes;
-        let inner = keyed(opening.session, block, 0x36);
-        let outer = keyed(opening.session, block, 0x5c);
-        TagAnswer {
-            refusal: 0,
-            session: TagSession {
-                inner: inner,
-                outer: outer,
-            },
+    }
+
+    // Two sessions that begin with the key, or why there are none.
+    fn begun(bits: u64, salt: &[u8], key: &[u8]) -> Result<TagSession, Refusal>
+        ensures refusal { refusal_of result ≡ open_tag_refusal bits (length salt.now) (length key.now) }
+        ensures session { IfOk result (λ session. session ≡ opened_tag bits salt.now key.now) }
+    {
+        let fresh = Session::open(Mode::DoublePipe, bits, salt)?;
+        let block = key_block(bits, salt, key)?;
+        Ok(TagSession {
+            inner: keyed(fresh, block, 0x36),
+            outer: keyed(fresh, block, 0x5c),
+        })
+    }
+
+    // A session for tags of so many bits under a salt and a key. Refused as `NotAdmitted`, `NoSalt` or `TooLong` (the key), it hands the blank one
+    // out.
+    pub fn open(bits: u64, salt: &[u8], key: &[u8]) -> Result<TagSession, RefusedTag>
+        ensures { tag_answer_of result ≡ open_tag_answer bits salt.now key.now }
+    {
+        match TagSession::begun(bits, salt, key) {
+            Ok(session) => Ok(session),
+            Err(refusal) => Err(TagSession::blank().refused(refusal)),
         }
     }
 
@@ -99,46 +110,31 @@ impl TagSession {
         if !self.outer.is_session() {
             return false;
         }
-        let inner = self.inner;
-        let inner_mode = inner.mode;
-        if !is_double_pipe(inner_mode) {
+        if self.inner.mode != Mode::DoublePipe {
             return false;
         }
-        let outer = self.outer;
-        let outer_mode = outer.mode;
-        if !is_double_pipe(outer_mode) {
+        if self.outer.mode != Mode::DoublePipe {
             return false;
         }
         if self.inner.bits != self.outer.bits {
             return false;
         }
-        let salt = self.inner.salt;
-        let outer_salt = self.outer.salt;
-        if !same(&salt, &outer_salt) {
+        if !same(&self.inner.salt, &self.outer.salt) {
             return false;
         }
         counts_fit(self.inner.taken, self.outer.taken, self.outer.bits)
     }
 
-    // The session with the piece joined to its message, or the same with 3 (no tag session) or 4 (too long).
-    pub fn add(self, piece: &[u8]) -> TagAnswer
-        ensures { result ≡ add_tag_answer self piece.now }
+    // The session with the piece joined to its message. Refused as `NoSession` or `TooLong`.
+    pub fn add(self, piece: &[u8]) -> Result<TagSession, RefusedTag>
+        ensures { tag_answer_of result ≡ add_tag_answer self piece.now }
     {
         if !self.is_session() {
-            return TagAnswer {
-                refusal: 3,
-                session: self,
-            };
+            return Err(self.refused(Refusal::NoSession));
         }
-        let adding = self.inner.add(piece);
-        let added = adding.session;
-        let outer = self.outer;
-        TagAnswer {
-            refusal: adding.refusal,
-            session: TagSession {
-                inner: added,
-                outer: outer,
-            },
+        match self.inner.add(piece) {
+            Ok(inner) => Ok(TagSession { inner, ..self }),
+            Err(refused) => Err(self.refused(refused.refusal)),
         }
     }
 
@@ -149,52 +145,35 @@ impl TagSession {
     {
         let n = (self.inner.bits / 8) as usize;
         let mut digest = [0u8; 64];
-        self.inner.read(&mut digest);
-        let adding = self.outer.add(&digest[..n]);
-        adding.session
+        let _ = self.inner.read(&mut digest);
+        self.outer.add(&digest[..n]).unwrap()
     }
 
-    // The tag of the message so far, at the front of `out`, whose bytes behind it stay; or 3 (no tag session) or 5 (too little room) and
-    // nothing written. The session is handed back as it came.
-    pub fn read(self, out: &mut [u8]) -> TagAnswer
-        ensures answer { result ≡ read_tag_answer self (length out.old) }
+    // Puts the tag of the message so far at the front of `out`, whose bytes behind it stay, and hands the session back as it came. Refused as
+    // `NoSession` or `NoRoom`, it writes nothing.
+    pub fn read(self, out: &mut [u8]) -> Result<TagSession, RefusedTag>
+        ensures answer { tag_answer_of result ≡ read_tag_answer self (length out.old) }
         ensures left { out.new ≡ read_tag_leaves self out.old }
     {
         if !self.is_session() {
-            return TagAnswer {
-                refusal: 3,
-                session: self,
-            };
+            return Err(self.refused(Refusal::NoSession));
         }
-        let closed = self.closed();
-        let reading = closed.read(out);
-        TagAnswer {
-            refusal: reading.refusal,
-            session: self,
+        match self.closed().read(out) {
+            Ok(_) => Ok(self),
+            Err(refused) => Err(self.refused(refused.refusal)),
         }
     }
 
-    // Whether the tag is that of the message so far, all of it and nothing else; or no with 3 (no tag session). The session is handed back as
-    // it came.
-    pub fn check(self, tag: &[u8]) -> Checking
-        ensures { result ≡ check_tag_answer self tag.now }
+    // Whether the tag is that of the message so far, all of it and nothing else; and the session as it came. Refused as `NoSession`.
+    pub fn check(self, tag: &[u8]) -> Result<Checked, RefusedTag>
+        ensures { checking_of result ≡ check_tag_answer self tag.now }
     {
-        if !self.is_session() {
-            return Checking {
-                refusal: 3,
-                yes: false,
-                session: self,
-            };
-        }
-        let closed = self.closed();
-        let n = (closed.bits / 8) as usize;
         let mut own = [0u8; 64];
-        closed.read(&mut own);
-        let yes = same(&own[..n], tag);
-        Checking {
-            refusal: 0,
-            yes: yes,
+        self.read(&mut own)?;
+        let n = (self.outer.bits / 8) as usize;
+        Ok(Checked {
+            yes: same(&own[..n], tag),
             session: self,
-        }
+        })
     }
 }

@@ -11,9 +11,9 @@ use lib.ListN.{drop, length}
 use Rattle.echo.specs.Refusals.{Refusal, ◌when◌, first_of, no_salt, unless}
 use Rattle.echo.specs.Session.{admitted, limit}
 use Rattle.echo.proofs.Promises.{add_nothing, double_block, kept, too_many}
-use Rattle.hmac.specs.declared.at_once.Verdict.{Verdict}
-use Rattle.hmac.specs.declared.tag_session.Checking.{Checking}
-use Rattle.hmac.specs.declared.tag_session.TagAnswer.{TagAnswer}
+use Rattle.hmac.specs.Answers.{Verdict}
+use Rattle.hmac.specs.Answers.{Checking}
+use Rattle.hmac.specs.Answers.{TagAnswer}
 use Rattle.hmac.specs.declared.tag_session.TagSession.{TagSession}
 use Rattle.hmac.specs.DoublePipe.{block_size}
 use Rattle.hmac.specs.Hmac.{tag_of}

@@ -13,7 +13,9 @@ use lib.Seq.{drop_at, get_or-take, length-take-le, take_at}
 use Rattle.aes_round.specs.Bytes.{xor, xor_bytes}
 use Rattle.aes_round.proofs.Promises.{Filled, code_xor, fill_more, get_or-xor, length-xor, same_list}
 use Rattle.echo.specs.declared.mode.Mode.TheVariants.{DoublePipe}
-use Rattle.echo.specs.declared.session.Answer.{Answer}
+use Rattle.std.proofs.Common.{Result, Ok, IsOk}
+use Rattle.echo.specs.declared.session.Refused.{Refused}
+use Rattle.echo.specs.Answers.{Answer, answer_of}
 use Rattle.echo.specs.declared.session.Session.{Session}
 use Rattle.echo.specs.Families.{either}
 use Rattle.echo.specs.Placed.{Placed}
@@ -21,6 +23,7 @@ use Rattle.echo.specs.Session.{add_answer, add_bytes, admitted, digest_leaves, d
 use Rattle.echo.proofs.Promises.{digest_long, digest_number, double_block, placed_front, takes_bytes}
 use Rattle.echo.proofs.Theorems.{admitted_exactly, at_once_is_the_digest}
 use Rattle.hmac.specs.DoublePipe.{block_size, digest_of}
+use Rattle.hmac.proofs.Laws.Answers.{is_taken, taken_is}
 use Rattle.hmac.specs.Hmac.{key_block, with_zeros}
 
 -- ---- zeros
@@ -150,11 +153,22 @@ module _ (h b i pad : ℕ) (block room padded : List ℕ) (F : Filled 192 (λ k.
         ∙ ap (λ (x : ℕ). xor x (get_or (replicate (block_size h) pad) k 0)) (get_or-take (block_size h) block k 0 (omega arith))
         ∙ ap (xor (get_or block k 0)) (get_or-replicate (block_size h) k pad 0 (omega arith))))
 
-    pub keyed_session : (fresh : Session) → h ≡ fresh.bits → is_session fresh ≡ true → fresh.taken ≡ 0
-        → (adding : Answer) → adding ≡ add_answer fresh (take b padded)
-        → adding.session ≡ add_bytes fresh (xor_bytes (block_size h) (take (block_size h) block) (replicate (block_size h) pad))
-    keyed_session fresh bits is none adding d =
-        let S = double_block h in
-        let whole : fresh.taken % 8 ≡ 0 = omega arith in
-        ap (λ (x : Answer). x.session) (d ∙ takes_bytes fresh (take b padded) is whole (omega (arith, padded_count)))
-        ∙ ap (add_bytes fresh) padded_front
+    module _ (fresh : Session) (is : is_session fresh ≡ true) (none : fresh.taken ≡ 0) (r : Result Session Refused)
+        (d : answer_of r ≡ add_answer fresh (take b padded)) where
+      keyed_answer : answer_of r ≡ record {
+        refusal = 0;
+        session = add_bytes fresh (xor_bytes (block_size h) (take (block_size h) block) (replicate (block_size h) pad));
+      }
+      keyed_answer =
+          let S = double_block h in
+          let whole : fresh.taken % 8 ≡ 0 = omega arith in
+          d
+          ∙ takes_bytes fresh (take b padded) is whole (omega (arith, padded_count))
+          ∙ ap (λ (x : List ℕ). record { refusal = 0; session = add_bytes fresh x }) padded_front
+
+      pub keyed_taken : IsOk r
+      keyed_taken = is_taken r _ keyed_answer
+
+      pub keyed_session : (s : Session) → r ≡ Ok s
+          → s ≡ add_bytes fresh (xor_bytes (block_size h) (take (block_size h) block) (replicate (block_size h) pad))
+      keyed_session s o = taken_is r _ s keyed_answer o

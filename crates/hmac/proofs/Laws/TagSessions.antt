@@ -4,25 +4,30 @@ use mathlib.Core.Bool.{Bool, true, false, not, ◌&&◌, true≢false}
 use mathlib.Core.List.{List, ◌++◌}
 use Prim.Native.Nat.{ℕ, ◌+◌, ◌*◌, ◌/◌, ◌%◌, ◌^◌, ◌<◌, ◌≤◌}
 use native.Mathlib.Omega.{arith}
-use borrow.Author.Tests.{eq-eqb, eqb-true, le-leb, leb-true, lt-leb, ltb-false, ltb-true, ne_eqb, not-false, not-true}
+use borrow.Author.Tests.{eq-eqb, eqb-true, le-leb, leb-true, le-ltb, lt-leb, ltb-false, ltb-true, ne_eqb, not-false, not-true}
+use denote.Enum.Bare.{sameb}
 use lib.Dec.{eqb, leb, ltb}
 use lib.ListN.{drop, length, replicate, take}
 use lib.Seq.{length-take-le, take_at}
+use Rattle.echo.specs.contracts.mode.Mode.{the_type}
 use Rattle.echo.specs.declared.mode.Mode.{Mode}
 use Rattle.echo.specs.declared.mode.Mode.TheVariants.{DoublePipe, SinglePipe}
-use Rattle.echo.specs.declared.session.Answer.{Answer}
+use Rattle.echo.specs.Answers.{Answer, answer_of, number_of}
 use Rattle.echo.specs.declared.session.Session.{Session}
 use Rattle.echo.specs.Session.{add_answer, bit_limit, is_session, read_answer, read_leaves, session_digest}
 use Rattle.echo.proofs.Promises.{add_is_session, add_keeps, both, double_block, reads_room, refuses_bytes, refuses_room, session_admits}
-use Rattle.echo.proofs.Promises.{session_digest_long, takes_bytes}
+use Rattle.echo.proofs.Promises.{session_digest_long, some, takes_bytes}
 use Rattle.echo.proofs.Theorems.{admitted_exactly}
-use Rattle.hmac.specs.declared.tag_session.Checking.{Checking}
-use Rattle.hmac.specs.declared.tag_session.TagAnswer.{TagAnswer}
+use Rattle.std.proofs.Common.{Result, Ok, Err, IsOk}
+use Rattle.echo.specs.declared.session.Refused.{Refused}
+use Rattle.hmac.specs.declared.tag_session.RefusedTag.{RefusedTag}
+use Rattle.hmac.specs.Answers.{Checking, TagAnswer, checking_of, tag_answer_of}
 use Rattle.hmac.specs.declared.tag_session.TagSession.{TagSession}
 use Rattle.hmac.specs.DoublePipe.{block_size, is_double_pipe}
 use Rattle.hmac.specs.Same.{same}
 use Rattle.hmac.specs.TagSession.{add_tag_answer, add_tag_bytes, add_tag_refusal, check_tag_answer, check_tag_refusal, closed_by, counts_fit}
 use Rattle.hmac.specs.TagSession.{is_tag_session, read_tag_answer, read_tag_leaves, read_tag_refusal, session_tag}
+use Rattle.hmac.proofs.Laws.Answers.{is_taken, taken_is}
 use Rattle.hmac.proofs.Laws.Same.{same_equal, same_self}
 
 -- ---- which records are tag sessions: the answers of is_session, by the tests i, o, m, d and s that the code made
@@ -89,6 +94,14 @@ module _ (inner outer h b : ℕ) (size : b ≡ block_size h) where
     pub right_count : 8 * b ≤ inner → eqb (inner % 8) 0 ≡ counts_fit inner outer h
     right_count n = rw (bits_of, eq-eqb outer (8 * b) count, le-leb (8 * b) inner n)
 
+-- as the code compares modes
+same_mode : (mode : Mode) → sameb the_type mode DoublePipe ≡ is_double_pipe mode
+same_mode DoublePipe = refl
+same_mode SinglePipe = refl
+
+pub another_mode : (mode : Mode) (b : Bool) → b ≡ not (sameb the_type mode DoublePipe) → not (is_double_pipe mode) ≡ b
+another_mode mode b e = ap not (sym (same_mode mode)) ∙ sym e
+
 double_pipe : (mode : Mode) → is_double_pipe mode ≡ true → mode ≡ DoublePipe
 double_pipe DoublePipe e = refl
 double_pipe SinglePipe e = absurd (true≢false (sym e))
@@ -145,21 +158,41 @@ module _ (t : TagSession) (piece : List ℕ) (a : Bool) (e : a ≡ is_tag_sessio
   unfolding add_tag_answer add_tag_refusal
   added_to_none fails = rw (← e, not-true a fails)
 
-  pub added_to_inner : not a ≡ false → (x : Answer) → x ≡ add_answer t.inner piece
-      → ◌≡◌ {A = TagAnswer} (record { refusal = x.refusal; session = record { inner = x.session; outer = t.outer } }) (add_tag_answer t piece)
-  unfolding add_tag_answer add_tag_refusal add_tag_bytes
-  added_to_inner holds x d = by (ltb bit_limit (t.inner.taken + 8 * length piece)) refl
-    where
-      F : TagFits t
-      F = tag_fits t (sym e ∙ not-false a holds)
+  module _ (holds : not a ≡ false) where
+    F : TagFits t
+    F = tag_fits t (sym e ∙ not-false a holds)
 
-      by : (b : Bool) → ltb bit_limit (t.inner.taken + 8 * length piece) ≡ b
-          → ◌≡◌ {A = TagAnswer} (record { refusal = x.refusal; session = record { inner = x.session; outer = t.outer } }) (add_tag_answer t piece)
-      by true p =
-          rw (← e, not-false a holds, p, d, refuses_bytes t.inner piece F.inner_is (ltb-true bit_limit (t.inner.taken + 8 * length piece) p))
-      by false p =
-          let short = ltb-false bit_limit (t.inner.taken + 8 * length piece) p in
-          rw (← e, not-false a holds, p, d, takes_bytes t.inner piece F.inner_is F.inner_whole short)
+    pub added_to_inner : (s : Session) → answer_of (Ok s) ≡ add_answer t.inner piece
+        → ◌≡◌ {A = TagAnswer} (record { refusal = 0; session = record { inner = s; outer = t.outer } }) (add_tag_answer t piece)
+    unfolding add_tag_answer add_tag_refusal add_tag_bytes
+    added_to_inner s d = by (ltb bit_limit (t.inner.taken + 8 * length piece)) refl
+      where
+        by : (b : Bool) → ltb bit_limit (t.inner.taken + 8 * length piece) ≡ b
+            → ◌≡◌ {A = TagAnswer} (record { refusal = 0; session = record { inner = s; outer = t.outer } }) (add_tag_answer t piece)
+        by true p =
+            let z : ◌≡◌ {A = ℕ} 0 4 =
+            ap (λ (x : Answer). x.refusal)
+            (d ∙ refuses_bytes t.inner piece F.inner_is (ltb-true bit_limit (t.inner.taken + 8 * length piece) p)) in
+            absurd (omega arith)
+        by false p =
+            let short = ltb-false bit_limit (t.inner.taken + 8 * length piece) p in
+            rw (← e, not-false a holds, p, ap (λ (x : Answer). x.session) (d ∙ takes_bytes t.inner piece F.inner_is F.inner_whole short))
+
+    pub refused_by_inner : (q : Refused) → answer_of (Err q) ≡ add_answer t.inner piece
+        → ◌≡◌ {A = TagAnswer} (record { refusal = number_of q.refusal; session = t }) (add_tag_answer t piece)
+    unfolding add_tag_answer add_tag_refusal
+    refused_by_inner q d = by (ltb bit_limit (t.inner.taken + 8 * length piece)) refl
+      where
+        by : (b : Bool) → ltb bit_limit (t.inner.taken + 8 * length piece) ≡ b
+            → ◌≡◌ {A = TagAnswer} (record { refusal = number_of q.refusal; session = t }) (add_tag_answer t piece)
+        by true p =
+            let n : number_of q.refusal ≡ 4 =
+            ap (λ (x : Answer). x.refusal)
+            (d ∙ refuses_bytes t.inner piece F.inner_is (ltb-true bit_limit (t.inner.taken + 8 * length piece) p)) in
+            rw (← e, not-false a holds, p, n)
+        by false p =
+            let short = ltb-false bit_limit (t.inner.taken + 8 * length piece) p in
+            absurd (some q.refusal (ap (λ (x : Answer). x.refusal) (d ∙ takes_bytes t.inner piece F.inner_is F.inner_whole short)))
 
 -- ---- the outer session with the digest of the inner one
 
@@ -202,15 +235,21 @@ module _ (t : TagSession) (is : is_tag_session t ≡ true) where
   outer_room : t.outer.taken + 8 * length (session_digest t.inner) ≤ bit_limit
   outer_room = let S = double_block t.outer.bits in omega (arith, most, inner_digest_long, fits.outer_block)
 
-  pub closes : (d : List ℕ) → d ≡ read_leaves t.inner (replicate 64 0) → (x : Answer) → x ≡ add_answer t.outer (take (t.inner.bits / 8) d)
-      → x.session ≡ closed_by t
-  unfolding closed_by
-  closes d e x y =
-      ap (λ (z : Answer). z.session)
-      (y
-      ∙ ap (λ (l : List ℕ). add_answer t.outer (take (t.inner.bits / 8) l)) e
-      ∙ ap (add_answer t.outer) (digest_read t.inner fits.inner_is)
-      ∙ takes_bytes t.outer (session_digest t.inner) fits.outer_is outer_whole outer_room)
+  module _ (d : List ℕ) (e : d ≡ read_leaves t.inner (replicate 64 0)) (r : Result Session Refused)
+      (y : answer_of r ≡ add_answer t.outer (take (t.inner.bits / 8) d)) where
+    closes : answer_of r ≡ record { refusal = 0; session = closed_by t }
+    unfolding closed_by
+    closes =
+        y
+        ∙ ap (λ (l : List ℕ). add_answer t.outer (take (t.inner.bits / 8) l)) e
+        ∙ ap (add_answer t.outer) (digest_read t.inner fits.inner_is)
+        ∙ takes_bytes t.outer (session_digest t.inner) fits.outer_is outer_whole outer_room
+
+    pub closing_taken : IsOk r
+    closing_taken = is_taken r _ closes
+
+    pub closing_is : (s : Session) → r ≡ Ok s → s ≡ closed_by t
+    closing_is s o = taken_is r _ s closes o
 
   pub closed_bits : (closed_by t).bits ≡ t.outer.bits
   unfolding closed_by
@@ -230,10 +269,6 @@ module _ (t : TagSession) (room : List ℕ) (a : Bool) (e : a ≡ is_tag_session
   pub left_none : not a ≡ true → room ≡ read_tag_leaves t room
   unfolding read_tag_leaves read_tag_refusal
   left_none fails = rw (← e, not-true a fails)
-
-  pub checked_none : not a ≡ true → ◌≡◌ {A = Checking} (record { refusal = 3; yes = false; session = t }) (check_tag_answer t room)
-  unfolding check_tag_answer check_tag_refusal
-  checked_none fails = rw (← e, not-true a fails)
 
 -- c is the outer session with the digest of the inner one, of a record that the code found to be a tag session by the test a
 module _ (t : TagSession) (a : Bool) (e : a ≡ is_tag_session t) (holds : not a ≡ false) where
@@ -270,14 +305,53 @@ module _ (t : TagSession) (a : Bool) (e : a ≡ is_tag_session t) (holds : not a
               ∙ (reads_room c room is (omega (arith, size, ltb-false (length room) (t.outer.bits / 8) p))).1
               ∙ ap₂ (λ (s : Session) (n : ℕ). session_digest s ++ drop n room) d size)
 
-    pub own_tag_within : (own : List ℕ) → length own ≡ 64 → c.bits / 8 ≤ length own
-    own_tag_within = digest_within c is
+-- ---- a tag that is read into 64 bytes, whose room is enough for any
 
-    pub own_tag_count : (own : List ℕ) → length own ≡ 64 → c.bits / 8 ≡ length (take (c.bits / 8) own)
-    own_tag_count = digest_count c is
+tag_most : (t : TagSession) → is_tag_session t ≡ true → t.outer.bits / 8 ≤ 64
+tag_most t is = let most = bits_most t.outer (tag_fits t is).outer_is in omega arith
 
-    pub checked_closed : (own tag : List ℕ) → own ≡ read_leaves c (replicate 64 0) → (says : Bool) → says ≡ same (take (c.bits / 8) own) tag
+module _ (t : TagSession) (tag : List ℕ) where
+  -- nothing is refused but what is no tag session
+  pub check_refused : (p : RefusedTag) → tag_answer_of (Err p) ≡ read_tag_answer t 64 → checking_of (Err p) ≡ check_tag_answer t tag
+  unfolding read_tag_answer read_tag_refusal check_tag_answer check_tag_refusal
+  check_refused p d = by (is_tag_session t) refl
+    where
+      by : (b : Bool) → is_tag_session t ≡ b → checking_of (Err p) ≡ check_tag_answer t tag
+      by true is =
+          let z : number_of p.refusal ≡ 0 = ap (λ (x : TagAnswer). x.refusal) d ∙ rw (is, le-ltb 64 (t.outer.bits / 8) (tag_most t is)) refl in
+          absurd (some p.refusal z)
+      by false is =
+          let n : number_of p.refusal ≡ 3 = ap (λ (x : TagAnswer). x.refusal) d ∙ rw is refl in
+          rw (is, n, ap (λ (x : TagAnswer). x.session) d)
+
+  module _ (s : TagSession) (d : tag_answer_of (Ok s) ≡ read_tag_answer t 64) where
+    read_is : is_tag_session t ≡ true
+    unfolding read_tag_answer read_tag_refusal
+    read_is = by (is_tag_session t) refl
+      where
+        by : (b : Bool) → is_tag_session t ≡ b → is_tag_session t ≡ true
+        by true is = is
+        by false is = let z : ◌≡◌ {A = ℕ} 0 3 = ap (λ (x : TagAnswer). x.refusal) d ∙ rw is refl in absurd (omega arith)
+
+    module _ (own : List ℕ) (long : length own ≡ 64) where
+      pub own_tag_within : t.outer.bits / 8 ≤ length own
+      own_tag_within = omega (arith, tag_most t read_is)
+
+      pub own_tag_count : t.outer.bits / 8 ≡ length (take (t.outer.bits / 8) own)
+      own_tag_count = sym (length-take-le (t.outer.bits / 8) own own_tag_within)
+
+    own_tag_is : (own : List ℕ) → own ≡ read_tag_leaves t (replicate 64 0) → take (t.outer.bits / 8) own ≡ session_tag t
+    unfolding read_tag_leaves read_tag_refusal session_tag
+    own_tag_is own l =
+        let most = bits_most t.outer (tag_fits t read_is).outer_is in
+        let bits = closed_bits t read_is in
+        let left : own ≡ session_digest (closed_by t) ++ drop (t.outer.bits / 8) (replicate 64 0) =
+        l ∙ rw (read_is, le-ltb 64 (t.outer.bits / 8) (tag_most t read_is)) refl in
+        ap (take (t.outer.bits / 8)) left
+        ∙ take_at (session_digest (closed_by t)) _ (t.outer.bits / 8)
+        (session_digest_long (closed_by t) (omega arith) ∙ ap (λ (n : ℕ). n / 8) bits)
+
+    pub checked_own : (own : List ℕ) → own ≡ read_tag_leaves t (replicate 64 0) → (says : Bool) → says ≡ same (take (t.outer.bits / 8) own) tag
         → ◌≡◌ {A = Checking} (record { refusal = 0; yes = says; session = t }) (check_tag_answer t tag)
-    unfolding check_tag_answer check_tag_refusal session_tag
-    checked_closed own tag l says y =
-        rw (is_tag, y, ap (take (c.bits / 8)) l, digest_read c is, d)
+    unfolding check_tag_answer check_tag_refusal
+    checked_own own l says y = rw (read_is, y, own_tag_is own l)

@@ -14,7 +14,7 @@ use Rattle.echo.specs.Refusals.{unless}
 use Rattle.echo.specs.Session.{add_bytes, admitted, bit_limit, is_session, limit, session_digest}
 use Rattle.echo.proofs.Promises.{add_counts, add_is_session, add_keeps, add_pieces, done, double_block, opened_bits, opened_digest, opened_is_session}
 use Rattle.echo.proofs.Promises.{opened_mode, opened_taken}
-use Rattle.hmac.specs.declared.tag_session.TagAnswer.{TagAnswer}
+use Rattle.hmac.specs.Answers.{TagAnswer}
 use Rattle.hmac.specs.declared.tag_session.TagSession.{TagSession}
 use Rattle.hmac.specs.DoublePipe.{block_size, digest_of, opened}
 use Rattle.hmac.specs.Hmac.{ipad, key_block, mac, opad, tag_of}

@@ -7,7 +7,7 @@ use lib.ListN.{length}
 use Rattle.echo.specs.Refusals.{◌when◌, first_of, no_salt, unless}
 use Rattle.echo.specs.Session.{admitted}
 use Rattle.echo.proofs.Promises.{done, kept}
-use Rattle.hmac.specs.declared.at_once.Verdict.{Verdict}
+use Rattle.hmac.specs.Answers.{Verdict}
 use Rattle.hmac.specs.Hmac.{tag_of}
 use Rattle.hmac.specs.Routines.{check_answer, check_refusal, too_long, verify_refusal}
 use Rattle.hmac.specs.Same.{same}

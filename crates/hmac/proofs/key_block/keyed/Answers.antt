@@ -3,7 +3,7 @@ use mathlib.Core.Path.{refl}
 use native.Mathlib.Omega.{arith}
 use borrow.Author.Rules.{rules}
 use Rattle.aes_round.proofs.Promises.{fill_none}
-use Rattle.hmac.proofs.Laws.KeyBlock.{front_count, keyed_session, pad_more, size_within}
+use Rattle.hmac.proofs.Laws.KeyBlock.{front_count, keyed_session, keyed_taken, pad_more, size_within}
 use Rattle.hmac.proofs.key_block.keyed.Goals as goal
 
 pub loop-i-init : goal.loop-i-init
@@ -20,6 +20,10 @@ slice_bounds-padded-end c = omega arith
 
 pub slice_bounds-add-end : goal.slice_bounds-add-end
 slice_bounds-add-end c = search front_count
+
+pub unwrap-requires : goal.unwrap-requires
+unwrap-requires c =
+    keyed_taken _ _ _ _ _ _ _ c.loop-i.invariant.2 c.block_size-b.ensures (omega arith) _ c.requires.fresh_value c.requires.taken_value _ c.add.ensures
 
 pub returns : goal.returns
 returns c = search keyed_session

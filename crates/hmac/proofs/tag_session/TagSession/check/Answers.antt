@@ -1,18 +1,18 @@
 -- `check` meets its contract: the tag is read, and compared with the one that is given. Assumes nothing.
-use Rattle.hmac.proofs.Laws.TagSessions.{checked_closed, checked_none, is_tag, own_tag_count, own_tag_within}
+use Rattle.std.proofs.lemmas.Result.{err_from_is_err_and}
+use Rattle.hmac.proofs.Laws.TagSessions.{check_refused, checked_own, own_tag_count, own_tag_within}
 use Rattle.hmac.proofs.tag_session.TagSession.check.Goals as goal
 
-pub returns-then-not-is_session : goal.returns-then-not-is_session
-returns-then-not-is_session c = search checked_none
-
-pub closed-closed-requires : goal.closed-closed-requires
-closed-closed-requires c = search is_tag
+pub returns-in_err-read : goal.returns-in_err-read
+returns-in_err-read c =
+    let p = err_from_is_err_and c.from_residual.result c.from_residual.ensures.1 in
+    rw (p.1, p.2) (check_refused _ _ c.in_err-read.field-0.0 c.in_err-read.ensures.answer)
 
 pub slice_bounds-own-end : goal.slice_bounds-own-end
-slice_bounds-own-end c = search own_tag_within
+slice_bounds-own-end c = search (own_tag_within, c.in_ok-read.ensures.answer)
 
 pub slice_bounds-same-end : goal.slice_bounds-same-end
-slice_bounds-same-end c = search own_tag_count
+slice_bounds-same-end c = search (own_tag_count, c.in_ok-read.ensures.answer)
 
 pub returns : goal.returns
-returns c = search checked_closed
+returns c = search (checked_own, c.in_ok-read.ensures.answer)

@@ -15,7 +15,7 @@ use Rattle.aes_round.proofs.Promises.{Filled, code_xor, fill_more, get_or-xor, l
 use Rattle.echo.specs.declared.mode.Mode.TheVariants.{DoublePipe}
 use Rattle.std.proofs.Common.{Result, Ok, IsOk}
 use Rattle.echo.specs.declared.session.Refused.{Refused}
-use Rattle.echo.specs.Answers.{Answer, answer_of}
+use Rattle.echo.specs.Answers.{answer_of}
 use Rattle.echo.specs.declared.session.Session.{Session}
 use Rattle.echo.specs.Families.{either}
 use Rattle.echo.specs.Placed.{Placed}

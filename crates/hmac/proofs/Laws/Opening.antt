@@ -15,7 +15,7 @@ use Rattle.echo.specs.declared.session.Refused.{Refused}
 use Rattle.echo.specs.declared.session.Session.{Session}
 use Rattle.echo.specs.Answers.{Answer, answer_of, number_of}
 use Rattle.echo.specs.Families.{either}
-use Rattle.echo.specs.Refusals.{◌when◌, first_of, unless}
+use Rattle.echo.specs.Refusals.{◌when◌, first_of}
 use Rattle.echo.specs.Session.{add_bytes, admitted, is_session, limit, open_answer}
 use Rattle.echo.proofs.Promises.{kept, no_digest_of_0_bits, opened_bits, opened_is_session, opened_taken, opening_number, opens, some}
 use Rattle.echo.proofs.Theorems.{admitted_exactly}

@@ -63,6 +63,7 @@ impl Record {
 }
 
 // The record of a kind whose body is given whole.
+#[tactic(auto, using(crate::proofs::Laws::Records::long), unfolding(crate::specs::Records::body_length))]
 pub(crate) fn record_of(kind: Kind, body: &[u8]) -> Record
     requires { length body.now ≡ body_length (kind_byte kind) }
     ensures { result ≡ record_of (kind_byte kind) body.now }

@@ -11,7 +11,7 @@ pub fn count(table: &[u8]) -> Result<usize, Refusal>
     ensures { counted_of result ≡ count_of (parse table.now) }
 {
     let mut at = 0;
-    let mut records = 0;
+    let mut records: usize = 0;
     while let Some((_, next)) = read_at(table, at)? {
         at = next;
         records += 1;

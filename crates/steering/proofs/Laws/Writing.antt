@@ -13,6 +13,7 @@ use mir.Syntax.{w8}
 use mir.Val.{Fits as Fits8}
 use lib.Seq.{drop-drop, length-sets, sets, sets-eq}
 use Rattle.steering.specs.Answers.{Written}
+use Rattle.std.specs.Int.{to_be_bytes, w64}
 use Rattle.steering.specs.Kinds.{kind_byte}
 use Rattle.steering.specs.Numbers.{AreBytes, bytes_of}
 use Rattle.steering.specs.Records.{Fits, body_length, body_of, kind_of, record_of}
@@ -22,7 +23,7 @@ use Rattle.steering.specs.declared.records.Note.{Note as NoteFields}
 use Rattle.steering.specs.declared.records.Record.{Record}
 use Rattle.steering.specs.declared.records.Record.TheVariants.{Floor, Hold, Node, Note}
 use Rattle.steering.proofs.Laws.Complete.{body_length_lem}
-use Rattle.steering.proofs.Laws.Numbers.{length_bytes}
+use Rattle.steering.proofs.Laws.Numbers.{length_bytes, written_last}
 use Rattle.steering.proofs.Laws.Outcomes.{record_fits}
 use Rattle.steering.proofs.Laws.Records.{Has, read_back, some_body}
 
@@ -35,11 +36,18 @@ sets_join room at (x ∷ xs) ys =
     ap (λ (k : ℕ). sets (sets (set room at x) (suc at) xs) k ys) (omega arith) ∙ sets_join (set room at x) (suc at) xs ys
 
 -- a run of bytes copied over so many of the room, from a place on
-pub put_part : (room last xs : List ℕ) (at n : ℕ) → last ≡ xs → length xs ≡ n → at + n ≤ length room → put_mid at (at + n - at) room last ≡ sets room at xs
+put_part : (room last xs : List ℕ) (at n : ℕ) → last ≡ xs → length xs ≡ n → at + n ≤ length room → put_mid at (at + n - at) room last ≡ sets room at xs
 put_part room last xs at n e l h =
     let k : at + n - at ≡ length xs = omega (arith, l) in
     rw (e, k, drop-drop (length xs) at room, ← append_assoc (take at room) xs (drop (at + length xs) room))
     (sym (sets-eq xs room at (omega (arith, l, h))))
+
+-- the last n of the eight bytes of a number
+pub put_last : (room eight last : List ℕ) (at n x : ℕ) → eight ≡ to_be_bytes w64 x → last ≡ take (8 - (8 - n)) (drop (8 - n) eight) → n ≤ 8
+    → at + n ≤ length room → put_mid at (at + n - at) room last ≡ sets room at (bytes_of n x)
+put_last room eight last at n x e f few h =
+    put_part room last (bytes_of n x) at n
+    (f ∙ ap (λ (l : List ℕ). take (8 - (8 - n)) (drop (8 - n) l)) e ∙ written_last n x few) (length_bytes n x) h
 
 -- a byte and a run of bytes leave as many
 pub as_long : (room after : List ℕ) (place at x : ℕ) (xs : List ℕ) → after ≡ sets (set room place x) at xs → length after ≡ length room

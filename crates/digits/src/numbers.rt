@@ -14,7 +14,7 @@ fn decimal(digit: u8) -> Option<u8>
 }
 
 // One to sixteen decimal digits, so that the value fits.
-#[tactic(auto, using(crate::proofs::Laws::Numbers::one_more, crate::proofs::Laws::Numbers::number_turn,), unfolding(crate::specs::Numbers::number_of, crate::specs::Numbers::number_from))]
+#[tactic(auto, using(crate::proofs::Laws::Numbers::digit_steps), unfolding(crate::specs::Numbers::number_of, crate::specs::Numbers::number_from))]
 pub fn number_in(word: &[u8]) -> Option<u64>
     ensures { result ≡ number_of word.now }
 {

@@ -1,5 +1,7 @@
 -- The bytes of pairs of digits, a pair at a time. Assumes nothing.
-use Rattle.std.proofs.Common.{◌≡◌, ◌∙◌, ap, le-leb, cond, eqb, leb, eqb-true, Bool, true, false, ℕ, zero, suc, ◌+◌, ◌*◌, ◌/◌, ◌%◌, ◌<◌, ◌≤◌, List, [], ◌∷◌, ◌++◌, drop, take, get_or, set, replicate, length, length-append, Option, Some, None, refl, sym, arith, add-one, drop-cons}
+use Rattle.std.proofs.Common.{◌≡◌, ◌∙◌, ap, refl, sym, arith, cond, eqb, leb, le-leb, eqb-true, Bool, true, false, Option, Some, None}
+use Rattle.std.proofs.Common.{ℕ, zero, suc, ◌+◌, ◌*◌, ◌/◌, ◌%◌, ◌<◌, ◌≤◌, List, [], ◌∷◌, ◌++◌, drop, take, get_or, set, replicate, length}
+use Rattle.std.proofs.Common.{add-one, drop-cons, length-append}
 use Rattle.std.proofs.Math.Seq.{drop-drop, drop-length, drop-set-lt, length-take-le, take-suc-set}
 use Rattle.std.proofs.Math.ListN.{take-append-drop}
 use Rattle.std.proofs.lemmas.Bool.{eqb-false, lt-leb}

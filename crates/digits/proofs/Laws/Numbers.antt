@@ -15,3 +15,6 @@ pub number_turn : (word : List ℕ) (i n d : ℕ) → i < length word → decima
     → number_from n (drop i word) ≡ number_from (10 * n + d) (drop (i + 1) word)
 unfolding number_from
 number_turn word i n d h e = rw (drop-cons word i 0 h, e, add-one i)
+
+-- what the loop of `number_in` keeps
+pub ruleset digit_steps = (one_more, number_turn)

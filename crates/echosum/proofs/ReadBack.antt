@@ -66,8 +66,8 @@ bytes_back : (so_far bytes : List ℕ) → AreBytes bytes → bytes_from so_far 
 bytes_back so_far [] b = rw (spread_nil digits_of, append-nil) (bytes_none so_far)
 bytes_back so_far (x ∷ xs) (one h b) =
     let e = bytes_back (so_far ++ (x ∷ [])) xs b in
-    rw (spread_cons digits_of x xs, bytes_more so_far (digit_of (x / 16)) (digit_of (x % 16)) (x / 16) (x % 16) (spread digits_of xs) (high x h) (low x), both x)
-    (rw (append_snoc so_far x xs) at e)
+    let more = bytes_more so_far (digit_of (x / 16)) (digit_of (x % 16)) (x / 16) (x % 16) (spread digits_of xs) (high x h) (low x) in
+    rw (spread_cons digits_of x xs, more, both x) (rw (append_snoc so_far x xs) at e)
 
 -- the digest of at most sixty-four bytes, with zeros behind it
 pub digest_back : (digest : List ℕ) → AreBytes digest → length digest ≤ 64

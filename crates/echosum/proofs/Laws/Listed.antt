@@ -1,5 +1,6 @@
 -- What a line of a list says. Assumes nothing.
-use Rattle.std.proofs.Common.{◌≡◌, refl, sym, ℕ, ◌+◌, ◌*◌, ◌-◌, ◌/◌, ◌≤◌, Bool, true, false, cond, eqb, ltb, List, get_or, length, length-drop, length-take, arith, eq-eqb, subst}
+use Rattle.std.proofs.Common.{◌≡◌, refl, subst, sym, arith, Bool, true, false, cond, eqb, ltb, eq-eqb}
+use Rattle.std.proofs.Common.{ℕ, ◌+◌, ◌*◌, ◌-◌, ◌/◌, ◌≤◌, List, get_or, length, length-drop, length-take}
 use Rattle.std.proofs.lemmas.Bool.{le-ltb, ltb-false, ne_eqb}
 use Rattle.std.proofs.lemmas.Option.{none-some, same_Some}
 use Rattle.std.specs.Prelude.{Option, None, Some, bytes_eq}

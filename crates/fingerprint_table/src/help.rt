@@ -1,20 +1,12 @@
-// What the program says about itself, on standard output.
-use super::saying::say_why;
+// What the program says about itself.
+use command::Program;
 
-fn print(rt: &HostRuntime, text: &[u8]) {
-    if let Err(error) = host::print(rt, text) {
-        say_why(rt, b"standard output", error);
-    }
-}
+pub(crate) const PROGRAM: Program = Program {
+    name: b"fingerprint_table",
+    usage: b"fingerprint_table [--explain] [-s SALT] [FILE]",
+};
 
-pub(crate) fn print_version(rt: &HostRuntime) {
-    print(rt, b"fingerprint_table (Bahmorist) 0.8.0\n");
-}
-
-pub(crate) fn print_help(rt: &HostRuntime) {
-    print(
-        rt,
-        b"\
+pub(crate) const HELP: &[u8] = b"\
 usage: fingerprint_table [--explain] [-s SALT] [FILE]
 Prints the fingerprint of a steering table, its ECHO digest of 256 bits under a salt, as 64 hex
 digits. FILE holds sixteen salt bytes and then the table, or with -s the table alone. Of a table
@@ -36,6 +28,4 @@ Refusals; places count from 0, the table's first byte, and not from the salt:
    8  the table is over 4096 bytes; the place is 0
    9  no record has this kind, whose byte is at the place
   10  the record is cut short, its kind byte at the place
-",
-    );
-}
+";

@@ -1,20 +1,12 @@
-// What the program says about itself, on standard output.
-use super::saying::say_why;
+// What the program says about itself.
+use command::Program;
 
-fn print(rt: &HostRuntime, text: &[u8]) {
-    if let Err(error) = host::print(rt, text) {
-        say_why(rt, b"standard output", error);
-    }
-}
+pub(crate) const PROGRAM: Program = Program {
+    name: b"list_table",
+    usage: b"list_table [--explain] [FILE]",
+};
 
-pub(crate) fn print_version(rt: &HostRuntime) {
-    print(rt, b"list_table (Bahmorist) 0.8.0\n");
-}
-
-pub(crate) fn print_help(rt: &HostRuntime) {
-    print(
-        rt,
-        b"\
+pub(crate) const HELP: &[u8] = b"\
 usage: list_table [--explain] [FILE]
 Lists the records of the steering table in FILE: a line for each, with its place, its kind and its
 body in hex, and then their count. Of a table that is refused only `refused N at P` is printed, with
@@ -33,6 +25,4 @@ Refusals; places count from 0, the table's first byte:
    8  the table is over 4096 bytes; the place is 0
    9  no record has this kind, whose byte is at the place
   10  the record is cut short, its kind byte at the place
-",
-    );
-}
+";

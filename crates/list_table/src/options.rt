@@ -1,71 +1,21 @@
 // The command line, taken word by word.
-use super::saying::{say_bad_word, say_second_file};
-use super::words::{is_dashed, is_same};
+use command::{BadWord, Common, Stop};
 
 // What the words so far ask for.
-#[derive(Clone, Copy)]
+#[derive(Clone, Copy, Default)]
 pub(crate) struct Options {
-    // whether a refusal is said in words too
+    pub common: Common,
+    // Whether a refusal is said in words too.
     pub explains: bool,
-    // which word names the file, and 0 where none does
-    pub file: usize,
-    // whether `--` was there: a word behind it is a file
-    is_ended: bool,
-    // whether the last word was bad, or asked for something else than a table; either ends the taking
-    pub is_bad: bool,
-    pub asks_help: bool,
-    pub asks_version: bool,
-    pub goes_on: bool,
-}
-
-pub(crate) fn defaults() -> Options {
-    Options {
-        explains: false,
-        file: 0,
-        is_ended: false,
-        is_bad: false,
-        asks_help: false,
-        asks_version: false,
-        goes_on: true,
-    }
 }
 
 impl Options {
-    // The options with the word i, which is not 0. A bad one is said.
-    pub fn take(mut self, rt: &HostRuntime, i: usize, word: &[u8]) -> Options {
-        if self.is_ended || !is_dashed(word) {
-            return self.take_file(rt, i, word);
+    pub fn take<'a>(&mut self, place: usize, word: &'a [u8]) -> Result<(), Stop<'a>> {
+        match self.common.take(place, word)? {
+            None => {}
+            Some(b"--explain") => self.explains = true,
+            Some(flag) => return Err(Stop::Bad(BadWord::Unknown(flag))),
         }
-        if is_same(word, b"--explain") {
-            self.explains = true;
-        } else if is_same(word, b"--") {
-            self.is_ended = true;
-        } else if is_same(word, b"-h") || is_same(word, b"--help") {
-            self.asks_help = true;
-            self.goes_on = false;
-        } else if is_same(word, b"--version") {
-            self.asks_version = true;
-            self.goes_on = false;
-        } else {
-            say_bad_word(rt, word);
-            self = self.with_bad_word();
-        }
-        self
-    }
-
-    fn take_file(mut self, rt: &HostRuntime, i: usize, word: &[u8]) -> Options {
-        if self.file == 0 {
-            self.file = i;
-        } else {
-            say_second_file(rt, word);
-            self = self.with_bad_word();
-        }
-        self
-    }
-
-    fn with_bad_word(mut self) -> Options {
-        self.is_bad = true;
-        self.goes_on = false;
-        self
+        Ok(())
     }
 }

@@ -1,9 +1,10 @@
 -- What a whole text comes to: a table, or the number of the first bad line, from 1. Assumes nothing.
-use Rattle.std.specs.Prelude.{ℕ, suc, ◌+◌, Bool, true, false, cond, not, ◌&&◌, List, [], ◌∷◌, ◌++◌, eqb, leb, length}
+use Rattle.std.specs.Prelude.{ℕ, suc, ◌+◌, Bool, true, false, cond, not, ◌&&◌, List, [], ◌∷◌, ◌++◌, Err, Ok, eqb, leb, length}
+use Rattle.std.specs.declared.result.Result.{Result}
 use Rattle.steering.specs.Records.{body_of, kind_of}
 use Rattle.write_table.specs.declared.line.Line.{Line}
 use Rattle.write_table.specs.declared.line.Line.TheVariants.{Count, Record, Unreadable}
-use Rattle.write_table.specs.declared.text.Made.{Made}
+use Rattle.write_table.specs.declared.text.BadLine.{BadLine}
 use Rattle.write_table.specs.Line.{line_of}
 
 pub data Text : Type 0 where
@@ -36,10 +37,10 @@ text_of more text = text_from more [] 0 [] text
 
 -- ---- as the code answers
 
--- the bad line, 0 for none; and how long the table is, 0 where a line is bad
-abbrev pub made_of : Text → Made
-made_of (table bytes) = record { bad_line = 0; size = length bytes }
-made_of (bad_line n) = record { bad_line = n; size = 0 }
+-- how long the table is, or the bad line
+abbrev pub made_of : Text → Result ℕ BadLine
+made_of (table bytes) = Ok (length bytes)
+made_of (bad_line n) = Err (record { number = n })
 
 abbrev pub bytes_made : Text → List ℕ
 bytes_made (table bytes) = bytes

@@ -1,24 +1,12 @@
-// What the program says about itself, on standard output. Each function answers whether all was written.
-use super::saying::say_why;
+// What the program says about itself.
+use command::Program;
 
-fn print(rt: &HostRuntime, text: &[u8]) -> bool {
-    match host::print(rt, text) {
-        Ok(()) => true,
-        Err(error) => {
-            say_why(rt, b"standard output", error);
-            false
-        }
-    }
-}
+pub(crate) const PROGRAM: Program = Program {
+    name: b"write_table",
+    usage: b"write_table [FILE]",
+};
 
-pub(crate) fn print_version(rt: &HostRuntime) -> bool {
-    print(rt, b"write_table (Bahmorist) 0.8.0\n")
-}
-
-pub(crate) fn print_help(rt: &HostRuntime) -> bool {
-    print(
-        rt,
-        b"\
+pub(crate) const HELP: &[u8] = b"\
 usage: write_table [FILE]
 Makes the steering table of the lines in FILE, as list_table prints them, and writes its bytes to
 standard output. No FILE, or -, is standard input. A line is `PLACE KIND BODY`, a record: its place,
@@ -38,6 +26,4 @@ Statuses:
 A line is bad that says no record and no count; whose record no table of 4096 bytes would hold;
 whose count is another; that stands behind the count; where the count is missing, the one behind
 the last; and that has no end within the first 65536 bytes.
-",
-    )
-}
+";

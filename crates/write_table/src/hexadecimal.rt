@@ -1,21 +1,29 @@
 // Hex digits as the lister prints them.
-ghost use Rattle.std.specs.Prelude.{◌+◌, ◌/◌, ◌≤◌, true, ◌≡◌, length};
+ghost use Rattle.std.specs.Prelude.{◌+◌, ◌/◌, ◌<◌, ◌≤◌, MatchOption, true, ◌≡◌, length};
 ghost use Rattle.std.proofs.lemmas.List.Edits.{sets};
+ghost use Rattle.digits.specs.Hexadecimal.{nibble_of};
 ghost use Rattle.write_table.specs.Hexadecimal.{is_hex, pairs_of, value_of};
 
 use digits::nibble;
 
-// The value of a digit, and 16 for any other byte. Capitals are none: the lister prints small letters.
-fn value(digit: u8) -> u8
-    ensures { result ≡ value_of digit }
+fn either_case(digit: u8) -> Option<u8>
+    ensures { MatchOption result (15 < nibble_of digit) (λ v. (v ≡ nibble_of digit) × (v ≤ 15)) }
+{
+    let value = nibble(digit);
+    if value < 16 { Some(value) } else { None }
+}
+
+// The value of a digit. Capitals are none: the lister prints small letters.
+fn value(digit: u8) -> Option<u8>
+    ensures { MatchOption result (15 < value_of digit) (λ v. (v ≡ value_of digit) × (v ≤ 15)) }
 {
     if digit <= b'9' {
-        return nibble(digit);
+        return either_case(digit);
     }
     if digit < b'a' {
-        return 16;
+        return None;
     }
-    nibble(digit)
+    either_case(digit)
 }
 
 // Puts the bytes of pairs of digits into the room, from a place on, and answers whether the text is such pairs and nothing else. Where it is not, what
@@ -27,14 +35,9 @@ pub(crate) fn pairs_in(text: &[u8], room: &mut [u8], from: usize) -> bool
 {
     let pairs = text.len() / 2;
     for i in 0..pairs {
-        let high = value(text[2 * i]);
-        let low = value(text[2 * i + 1]);
-        if 15 < high {
+        let (Some(high), Some(low)) = (value(text[2 * i]), value(text[2 * i + 1])) else {
             return false;
-        }
-        if 15 < low {
-            return false;
-        }
+        };
         room[from + i] = 16 * high + low;
     }
     2 * pairs == text.len()

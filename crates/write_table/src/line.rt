@@ -8,7 +8,6 @@ ghost use Rattle.std.specs.Prelude.{◌≡◌, ◌+◌, ◌≤◌, length};
 ghost use Rattle.write_table.specs.Line.{alone, count_line, digits_in, is_framed, line_of, record_behind, record_in, same_of};
 
 use super::hexadecimal::pairs_in;
-use super::words::is_same;
 use lines::{put, put_decimal};
 use steering::{Reading, Record};
 
@@ -106,6 +105,12 @@ fn record_in(line: &[u8]) -> Line
         return Line::Unreadable;
     }
     record_behind(line, at)
+}
+
+fn is_same(a: &[u8], b: &[u8]) -> bool
+    ensures { result ≡ same_of a.now b.now }
+{
+    a == b
 }
 
 // Whether the line is that of so many records, as the lister prints it.

@@ -1,40 +1,28 @@
 // A whole text, made a table.
-ghost use Rattle.std.specs.Prelude.{cond, false, ◌≡◌, ◌≤◌, eqb, length, take};
+ghost use Rattle.std.specs.Prelude.{cond, false, ◌≡◌, ◌≤◌, IfOk, eqb, length, take};
 ghost use Rattle.steering.specs.Records.{Fits};
 ghost use Rattle.write_table.specs.Text.{bytes_made, made_of, text_of};
-ghost use Rattle.write_table.specs.Step.{bad_at, step_leaves, step_of};
+ghost use Rattle.write_table.specs.Step.{step_leaves, step_of};
 ghost use Rattle.write_table.specs.Line.{line_of};
 
 use super::line::{Line, line_in};
 use steering::Record;
 
-// The number of the first bad line, 0 for none, and the size of the table, 0 where a line is bad.
+// The first line that is bad, by its number.
 #[derive(Clone, Copy)]
-pub(crate) struct Made {
-    pub bad_line: usize,
-    pub size: usize,
+pub(crate) struct BadLine {
+    pub number: usize,
 }
 
-// What a line comes to: whether the text is over with it, and then what came of the text; or the size of the table with one record more.
+// What a good line comes to, with the size of the table behind it: there may be more lines, or the text is over.
 #[derive(Clone, Copy)]
-struct Step {
-    is_over: bool,
-    bad_line: usize,
-    size: usize,
-}
-
-fn bad(line: usize) -> Step
-    ensures { result ≡ bad_at line }
-{
-    Step {
-        is_over: true,
-        bad_line: line,
-        size: 0,
-    }
+enum Step {
+    More(usize),
+    Over(usize),
 }
 
 // A record is put behind those of before, if it finds room.
-fn take_record(given: Record, count: usize, size: usize, room: &mut [u8]) -> Step
+fn take_record(given: Record, count: usize, size: usize, room: &mut [u8]) -> Result<Step, BadLine>
     requires fits { Fits given }
     requires room_len { (length room.old ≡ 4096) × (count ≤ 65536) }
     ensures step { result ≡ step_of (Line.Record given) count size false }
@@ -42,31 +30,29 @@ fn take_record(given: Record, count: usize, size: usize, room: &mut [u8]) -> Ste
 {
     let written = steering::write_at(room, size, given);
     if written.refusal != 0 {
-        return bad(count + 1);
+        return Err(BadLine { number: count + 1 });
     }
-    Step {
-        is_over: false,
-        bad_line: 0,
-        size: written.next,
-    }
+    Ok(Step::More(written.next))
 }
 
-fn take_count(count: usize, size: usize, is_last: bool) -> Step
+fn take_count(count: usize, size: usize, is_last: bool) -> Result<Step, BadLine>
     requires { count ≤ 65536 }
     ensures { result ≡ step_of Line.Count count size is_last }
 {
     if !is_last {
-        return bad(count + 2);
+        return Err(BadLine { number: count + 2 });
     }
-    Step {
-        is_over: true,
-        bad_line: 0,
-        size: size,
-    }
+    Ok(Step::Over(size))
 }
 
 // One line, behind so many records in so many bytes of the room.
-fn take_line(line: &[u8], count: usize, size: usize, is_last: bool, room: &mut [u8]) -> Step
+fn take_line(
+    line: &[u8],
+    count: usize,
+    size: usize,
+    is_last: bool,
+    room: &mut [u8],
+) -> Result<Step, BadLine>
     requires { (length room.old ≡ 4096) × (count ≤ 65536) }
     ensures step { result ≡ step_of (line_of count line.now) count size is_last }
     ensures left { room.new ≡ step_leaves (line_of count line.now) size room.old }
@@ -74,7 +60,7 @@ fn take_line(line: &[u8], count: usize, size: usize, is_last: bool, room: &mut [
     match line_in(line, count) {
         Line::Record(given) => take_record(given, count, size, room),
         Line::Count => take_count(count, size, is_last),
-        Line::Unreadable => bad(count + 1),
+        Line::Unreadable => Err(BadLine { number: count + 1 }),
     }
 }
 
@@ -88,13 +74,13 @@ fn is_end(place: usize, size: usize, goes_on: bool) -> bool
     place == size
 }
 
-// Puts the table of a text at the front of the room, which has 4,096 bytes; or answers the number of the first bad line. `goes_on` tells whether the input
-// goes on behind the text.
-pub(crate) fn table_in(text: &[u8], goes_on: bool, room: &mut [u8]) -> Made
+// Puts the table of a text at the front of the room, which has 4,096 bytes, and answers its size; or answers the first bad line. `goes_on` tells whether the
+// input goes on behind the text.
+pub(crate) fn table_in(text: &[u8], goes_on: bool, room: &mut [u8]) -> Result<usize, BadLine>
     requires room_len { length room.old ≡ 4096 }
     requires text_len_bound { length text.now ≤ 65536 }
     ensures made { result ≡ made_of (text_of goes_on text.now) }
-    ensures left { take result.size room.new ≡ bytes_made (text_of goes_on text.now) }
+    ensures left { IfOk result (λ size. take size room.new ≡ bytes_made (text_of goes_on text.now)) }
 {
     let n = text.len();
     let mut from = 0;
@@ -105,19 +91,14 @@ pub(crate) fn table_in(text: &[u8], goes_on: bool, room: &mut [u8]) -> Made
             continue;
         }
         let is_last = is_end(i + 1, n, goes_on);
-        let step = take_line(&text[from..i], count, size, is_last, room);
-        if step.is_over {
-            return Made {
-                bad_line: step.bad_line,
-                size: step.size,
-            };
+        match take_line(&text[from..i], count, size, is_last, room)? {
+            Step::More(longer) => size = longer,
+            Step::Over(whole) => return Ok(whole),
         }
         from = i + 1;
         count += 1;
-        size = step.size;
     }
-    Made {
-        bad_line: count + 1,
-        size: 0,
-    }
+    // The count is missing, on the line behind the last.
+    let missing = count + 1;
+    Err(BadLine { number: missing })
 }

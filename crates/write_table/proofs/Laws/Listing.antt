@@ -13,6 +13,7 @@ use Rattle.lines.specs.Decimal.{decimal_of}
 use Rattle.lines.specs.Hexadecimal.{digit_of, digits_of}
 use Rattle.lines.specs.Lines.{spread}
 use Rattle.lines.proofs.Promises.{decimal_digits, few_digits, some_digit, spread_cons, spread_nil}
+use Rattle.std.specs.Prelude.{Ok}
 use Rattle.steering.specs.Numbers.{AreBytes}
 use Rattle.steering.specs.Parsing.{AllFit, table_of}
 use Rattle.steering.specs.Records.{Fits, body_of, kind_of}
@@ -23,7 +24,7 @@ use Rattle.write_table.specs.declared.line.Line.TheVariants.{Count, Record, Unre
 use Rattle.write_table.specs.Hexadecimal.{is_hex, pairs_of, value_of}
 use Rattle.write_table.specs.Line.{alone, count_line, digits_in, hex_behind, is_framed, line_of, record_behind, record_in, same_of}
 use Rattle.write_table.specs.Listing.{lines_from, listing_of, record_line}
-use Rattle.write_table.specs.Text.{Text, bad_line, go_on, is_nil, table, text_from, text_of}
+use Rattle.write_table.specs.Text.{Text, bad_line, go_on, is_nil, made_of, table, text_from, text_of}
 use Rattle.write_table.proofs.Laws.Hexadecimal.{hex_more}
 use Rattle.write_table.proofs.Laws.Line.{same_self}
 use Rattle.write_table.proofs.Laws.Text.{line_fits}
@@ -319,3 +320,11 @@ from_good more (x ∷ rest) line count bytes T =
 
 pub made_is_a_table : (more : Bool) (text bytes : List ℕ) → text_of more text ≡ table bytes → IsTable bytes
 made_is_a_table more text bytes e = subst IsMade e (from_good more text [] 0 [] ([], refl, tt, omega arith))
+
+-- a table has at most 4096 bytes
+pub made_fits : (more : Bool) (text : List ℕ) (n : ℕ) → Ok n ≡ made_of (text_of more text) → n ≤ 4096
+made_fits more text n = by (text_of more text) refl
+  where
+    by : (x : Text) → text_of more text ≡ x → Ok n ≡ made_of x → n ≤ 4096
+    by (table bytes) q e = let same : n ≡ length bytes = cc in omega (arith, same, (made_is_a_table more text bytes q).3)
+    by (bad_line m) q e = let z : ◌≡◌ {A = ℕ} 0 1 = cc in absurd (omega arith)

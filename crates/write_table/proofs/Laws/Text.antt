@@ -9,6 +9,8 @@ use borrow.Author.Tests.{eq-eqb, eqb-false, eqb-true, leb-false, leb-true, ne_eq
 use lib.Dec.{eqb, leb}
 use lib.ListN.{drop, get_or, length, length-append, length-drop, take}
 use lib.Seq.{drop-cons, drop-length, get_or-drop, length-take-le, take_at, take-suc}
+use Rattle.std.specs.Prelude.{Err, Ok}
+use Rattle.std.specs.declared.result.Result.{Result}
 use Rattle.steering.specs.Reading.{read_at}
 use Rattle.steering.specs.Records.{Fits, body_of, kind_of}
 use Rattle.steering.specs.Writing.{put_at, write_answer, write_leaves}
@@ -20,8 +22,9 @@ use Rattle.steering.proofs.Promises.{short_write}
 use Rattle.steering.proofs.Theorems.{a_record_is_what_stands_there, a_record_that_fits_is_written}
 use Rattle.write_table.specs.declared.line.Line.{Line}
 use Rattle.write_table.specs.declared.line.Line.TheVariants.{Count, Record, Unreadable}
-use Rattle.write_table.specs.declared.text.Made.{Made}
+use Rattle.write_table.specs.declared.text.BadLine.{BadLine}
 use Rattle.write_table.specs.declared.text.Step.{Step}
+use Rattle.write_table.specs.declared.text.Step.TheVariants.{More, Over}
 use Rattle.write_table.specs.Hexadecimal.{is_hex, pairs_of}
 use Rattle.write_table.specs.Line.{alone, count_line, digits_in, hex_behind, is_framed, line_of, only_record, record_behind, record_in, same_of}
 use Rattle.write_table.specs.Step.{bad_at, step_leaves, step_of}
@@ -86,8 +89,8 @@ module _ (r : TableRecord) (f : Fits r) (room : List ℕ) (l : length room ≡ 4
           by true p = absurd (some (refusal_is _ (finds_room p).0))
           by false p = p
 
-      pub record_refused : (s : Step) → s ≡ bad_at (count + 1) → s ≡ step_of (Record r) count size false
-      record_refused s q = q ∙ rw no_room
+      pub record_refused : bad_at (count + 1) ≡ step_of (Record r) count size false
+      record_refused = rw no_room
 
       pub record_left : (after : List ℕ) → after ≡ write_leaves room size r → after ≡ step_leaves (Record r) size room
       record_left after q = q ∙ (finds_none no_room).1 ∙ rw no_room
@@ -100,9 +103,8 @@ module _ (r : TableRecord) (f : Fits r) (room : List ℕ) (l : length room ≡ 4
           by true p = p
           by false p = let z : ◌≡◌ {A = ℕ} 0 5 = sym none ∙ refusal_is _ (finds_none p).0 in absurd (omega arith)
 
-      pub record_taken : record { is_over = false; bad_line = 0; size = w.next } ≡ step_of (Record r) count size false
-      record_taken =
-          ap (λ (k : ℕ). record { is_over = false; bad_line = 0; size = k }) (ap (λ (x : Written). x.next) (e ∙ (finds_room some_room).0)) ∙ rw some_room
+      pub record_taken : Ok (More w.next) ≡ step_of (Record r) count size false
+      record_taken = rw some_room (ap (λ (k : ℕ). Ok (More k)) (ap (λ (x : Written). x.next) (e ∙ (finds_room some_room).0)))
 
       pub record_put : (after : List ℕ) → after ≡ write_leaves room size r → after ≡ step_leaves (Record r) size room
       record_put after q = q ∙ (finds_room some_room).1 ∙ rw some_room
@@ -110,10 +112,10 @@ module _ (r : TableRecord) (f : Fits r) (room : List ℕ) (l : length room ≡ 4
 -- ---- the count
 
 module _ (count size : ℕ) (last : Bool) where
-  pub not_last : last ≡ false → (s : Step) → s ≡ bad_at (count + 2) → s ≡ step_of Count count size last
-  not_last n s q = q ∙ rw n
+  pub not_last : last ≡ false → bad_at (count + 2) ≡ step_of Count count size last
+  not_last n = rw n
 
-  pub at_last : last ≡ true → record { is_over = true; bad_line = 0; size = size } ≡ step_of Count count size last
+  pub at_last : last ≡ true → Ok (Over size) ≡ step_of Count count size last
   at_last y = rw y
 
 pub not_going_on : (more : Bool) (place size : ℕ) → more ≡ false → eqb place size ≡ cond more false (eqb place size)
@@ -122,14 +124,14 @@ not_going_on more place size n = rw n
 -- ---- one line
 
 module _ (x l q : Line) (is : x ≡ q) (e : x ≡ l) where
-  pub step_is : (count size : ℕ) (last : Bool) (s : Step) → s ≡ step_of q count size last → s ≡ step_of l count size last
+  pub step_is : (count size : ℕ) (last : Bool) (s : Result Step BadLine) → s ≡ step_of q count size last → s ≡ step_of l count size last
   step_is count size last s p = p ∙ ap (λ (y : Line). step_of y count size last) (sym is ∙ e)
 
   pub leaves_is : (size : ℕ) (room after : List ℕ) → after ≡ step_leaves q size room → after ≡ step_leaves l size room
   leaves_is size room after p = p ∙ ap (λ (y : Line). step_leaves y size room) (sym is ∙ e)
 
 -- a record's step does not look at what follows
-pub step_of_record : (x l : Line) (r : TableRecord) → x ≡ Record r → x ≡ l → (count size : ℕ) (last : Bool) (s : Step)
+pub step_of_record : (x l : Line) (r : TableRecord) → x ≡ Record r → x ≡ l → (count size : ℕ) (last : Bool) (s : Result Step BadLine)
     → s ≡ step_of (Record r) count size false → s ≡ step_of l count size last
 step_of_record x l r is e count size last s p = step_is x l (Record r) is e count size last s p
 
@@ -160,56 +162,64 @@ module _ (room : List ℕ) (long : length room ≡ 4096) (size : ℕ) (within : 
         )
 
   -- where it is over
-  over : (l : Line) → (step_of l count size last).is_over ≡ true
-      → (record { bad_line = (step_of l count size last).bad_line; size = (step_of l count size last).size }
-      ≡ made_of (go_on l count (take size room) last rest))
-      × (take (step_of l count size last).size (step_leaves l size room) ≡ bytes_made (go_on l count (take size room) last rest))
-  over (Record r) y = by (leb (size + suc (length (body_of r))) 4096) refl
+  over : (l : Line) (n : ℕ) → step_of l count size last ≡ Ok (Over n)
+      → (Ok n ≡ made_of (go_on l count (take size room) last rest)) × (take n (step_leaves l size room) ≡ bytes_made (go_on l count (take size room) last rest))
+  over (Record r) n y = absurd (by (leb (size + suc (length (body_of r))) 4096) y)
+    where
+      by : (t : Bool) → cond t (Ok (More (size + suc (length (body_of r))))) (bad_at (count + 1)) ≡ Ok (Over n) → ⊥
+      by true e = let z : ◌≡◌ {A = ℕ} 0 1 = cc in omega arith
+      by false e = let z : ◌≡◌ {A = ℕ} 0 1 = cc in omega arith
+  over Count n y = by last refl y
+    where
+      by : (t : Bool) → last ≡ t → cond t (Ok (Over size)) (bad_at (count + 2)) ≡ Ok (Over n)
+          → (Ok n ≡ made_of (go_on Count count (take size room) last rest))
+          × (take n (step_leaves Count size room) ≡ bytes_made (go_on Count count (take size room) last rest))
+      by true p e = let same : size ≡ n = cc in (rw p (ap Ok (sym (so_many ∙ same))), rw p (ap (λ (k : ℕ). take k room) (sym same)))
+      by false p e = let z : ◌≡◌ {A = ℕ} 0 1 = cc in absurd (omega arith)
+  over Unreadable n y = let z : ◌≡◌ {A = ℕ} 0 1 = cc in absurd (omega arith)
+
+  -- where a line is bad
+  bad : (l : Line) (b : BadLine) → step_of l count size last ≡ Err b → Err b ≡ made_of (go_on l count (take size room) last rest)
+  bad (Record r) b y = by (leb (size + suc (length (body_of r))) 4096) refl y
     where
       by : (t : Bool) → leb (size + suc (length (body_of r))) 4096 ≡ t
-          → (record { bad_line = (step_of (Record r) count size last).bad_line; size = (step_of (Record r) count size last).size }
-          ≡ made_of (go_on (Record r) count (take size room) last rest))
-          × (take (step_of (Record r) count size last).size (step_leaves (Record r) size room)
-          ≡ bytes_made (go_on (Record r) count (take size room) last rest))
-      by true p = absurd (true≢false (sym y ∙ rw p))
-      by false p = (rw (same_test r, p), rw (same_test r, p))
-  over Count y = by last refl
+          → cond t (Ok (More (size + suc (length (body_of r))))) (bad_at (count + 1)) ≡ Err b
+          → Err b ≡ made_of (go_on (Record r) count (take size room) last rest)
+      by true p e = let z : ◌≡◌ {A = ℕ} 0 1 = cc in absurd (omega arith)
+      by false p e = let same : ◌≡◌ {A = BadLine} (record { number = count + 1 }) b = cc in rw (same_test r, p) (ap Err (sym same))
+  bad Count b y = by last refl y
     where
-      by : (t : Bool) → last ≡ t
-          → (record { bad_line = (step_of Count count size last).bad_line; size = (step_of Count count size last).size }
-          ≡ made_of (go_on Count count (take size room) last rest))
-          × (take (step_of Count count size last).size (step_leaves Count size room) ≡ bytes_made (go_on Count count (take size room) last rest))
-      by true p = (rw p (ap (λ (k : ℕ). record { bad_line = 0; size = k }) (sym so_many)), rw p)
-      by false p = (rw p, rw p)
-  over Unreadable y = (refl, refl)
+      by : (t : Bool) → last ≡ t → cond t (Ok (Over size)) (bad_at (count + 2)) ≡ Err b
+          → Err b ≡ made_of (go_on Count count (take size room) last rest)
+      by true p e = let z : ◌≡◌ {A = ℕ} 0 1 = cc in absurd (omega arith)
+      by false p e = let same : ◌≡◌ {A = BadLine} (record { number = count + 2 }) b = cc in rw p (ap Err (sym same))
+  bad Unreadable b y = let same : ◌≡◌ {A = BadLine} (record { number = count + 1 }) b = cc in ap Err (sym same)
 
   -- where it goes on
-  on : (l : Line) → (step_of l count size last).is_over ≡ false
-      → (go_on l count (take size room) last rest ≡ rest (take (step_of l count size last).size (step_leaves l size room)))
-      × ((step_of l count size last).size ≤ 4096)
+  on : (l : Line) (n : ℕ) → step_of l count size last ≡ Ok (More n)
+      → (go_on l count (take size room) last rest ≡ rest (take n (step_leaves l size room)))
+      × (n ≤ 4096)
       × (length (step_leaves l size room) ≡ 4096)
-  on (Record r) n = by (leb (size + suc (length (body_of r))) 4096) refl
+  on (Record r) n y = by (leb (size + suc (length (body_of r))) 4096) refl y
     where
       by : (t : Bool) → leb (size + suc (length (body_of r))) 4096 ≡ t
-          → (go_on (Record r) count (take size room) last rest
-          ≡ rest (take (step_of (Record r) count size last).size (step_leaves (Record r) size room)))
-          × ((step_of (Record r) count size last).size ≤ 4096)
+          → cond t (Ok (More (size + suc (length (body_of r))))) (bad_at (count + 1)) ≡ Ok (More n)
+          → (go_on (Record r) count (take size room) last rest ≡ rest (take n (step_leaves (Record r) size room)))
+          × (n ≤ 4096)
           × (length (step_leaves (Record r) size room) ≡ 4096)
-      by true p = (
-        rw (same_test r, p) (ap rest (sym (longer r p))),
-        rw p (leb-true (size + suc (length (body_of r))) 4096 p),
-        rw p (as_long r p),
-      )
-      by false p = absurd (true≢false (sym (sym n ∙ rw p)))
-  on Count n = by last refl
+      by true p e =
+          let same : size + suc (length (body_of r)) ≡ n = cc in (
+            rw (same_test r, p) (ap rest (sym (longer r p) ∙ ap (λ (k : ℕ). take k (put_at room size (kind_of r ∷ body_of r))) same)),
+            omega (arith, same, leb-true (size + suc (length (body_of r))) 4096 p),
+            rw p (as_long r p),
+          )
+      by false p e = let z : ◌≡◌ {A = ℕ} 0 1 = cc in absurd (omega arith)
+  on Count n y = absurd (by last y)
     where
-      by : (t : Bool) → last ≡ t
-          → (go_on Count count (take size room) last rest ≡ rest (take (step_of Count count size last).size (step_leaves Count size room)))
-          × ((step_of Count count size last).size ≤ 4096)
-          × (length (step_leaves Count size room) ≡ 4096)
-      by true p = absurd (true≢false (sym (sym n ∙ rw p)))
-      by false p = absurd (true≢false (sym (sym n ∙ rw p)))
-  on Unreadable n = absurd (true≢false n)
+      by : (t : Bool) → cond t (Ok (Over size)) (bad_at (count + 2)) ≡ Ok (More n) → ⊥
+      by true e = let z : ◌≡◌ {A = ℕ} 0 1 = cc in omega arith
+      by false e = let z : ◌≡◌ {A = ℕ} 0 1 = cc in omega arith
+  on Unreadable n y = let z : ◌≡◌ {A = ℕ} 0 1 = cc in absurd (omega arith)
 
 -- ---- the loop over the bytes of a text
 
@@ -279,17 +289,14 @@ module _ (more : Bool) (text : List ℕ) (i from count : ℕ) (bytes : List ℕ)
     unfolding text_from
     text_ends = let end : i ≡ length text = omega arith in so_far ∙ rw (end, drop-length text)
 
-    pub bad_made : record { bad_line = count + 1; size = 0 } ≡ made_of (text_of more text)
+    pub bad_made : Err (record { number = count + 1 }) ≡ made_of (text_of more text)
     bad_made = rw text_ends
-
-    pub bad_left : [] ≡ bytes_made (text_of more text)
-    bad_left = rw text_ends
 
 -- the same where the bytes are those at the front of the room, and the code took a step
 module _ (more : Bool) (text : List ℕ) (i from count size : ℕ) (room : List ℕ)
     (so_far : text_of more text ≡ text_from more (take (i - from) (drop from text)) count (take size room) (drop i text)) (n : ℕ) (l : n ≡ length text)
     (h : i < n) (e : get_or text i 0 ≡ 10) (last : Bool) (q : last ≡ cond more false (eqb (i + 1) n)) (long : length room ≡ 4096) (within : size ≤ 4096)
-    (s : Step) (p : s ≡ step_of (line_of count (take (i - from) (drop from text))) count size last) (after : List ℕ)
+    (s : Result Step BadLine) (p : s ≡ step_of (line_of count (take (i - from) (drop from text))) count size last) (after : List ℕ)
     (a : after ≡ step_leaves (line_of count (take (i - from) (drop from text))) size room) where
   abbrev line : Line
   line = line_of count (take (i - from) (drop from text))
@@ -300,67 +307,33 @@ module _ (more : Bool) (text : List ℕ) (i from count size : ℕ) (room : List 
   ends : text_of more text ≡ go_on line count (take size room) last rest
   ends = line_ends more text i from count (take size room) so_far n l h e last q
 
-  over_is : (t : Bool) → s.is_over ≡ t → (step_of line count size last).is_over ≡ t
-  over_is t y = sym (ap (λ (x : Step). x.is_over) p) ∙ y
+  module _ (longer : ℕ) (y : s ≡ Ok (Over longer)) where
+    is_over : (Ok longer ≡ made_of (go_on line count (take size room) last rest))
+        × (take longer (step_leaves line size room) ≡ bytes_made (go_on line count (take size room) last rest))
+    is_over = over room long size within count last rest line longer (sym p ∙ y)
 
-  module _ (y : s.is_over ≡ true) where
-    pub made_is : record { bad_line = s.bad_line; size = s.size } ≡ made_of (text_of more text)
-    made_is = rw (ends, p) (over room long size within count last rest line (over_is true y)).0
+    pub made_is : Ok longer ≡ made_of (text_of more text)
+    made_is = rw ends is_over.0
 
-    pub left_is : take s.size after ≡ bytes_made (text_of more text)
-    left_is = rw (ends, p, a) (over room long size within count last rest line (over_is true y)).1
+    pub left_is : take longer after ≡ bytes_made (text_of more text)
+    left_is = rw (ends, a) is_over.1
 
-  module _ (y : s.is_over ≡ false) where
-    goes : (go_on line count (take size room) last rest ≡ rest (take (step_of line count size last).size (step_leaves line size room)))
-        × ((step_of line count size last).size ≤ 4096)
+  pub bad_is : (b : BadLine) → s ≡ Err b → Err b ≡ made_of (text_of more text)
+  bad_is b y = rw ends (bad room long size within count last rest line b (sym p ∙ y))
+
+  module _ (longer : ℕ) (y : s ≡ Ok (More longer)) where
+    goes : (go_on line count (take size room) last rest ≡ rest (take longer (step_leaves line size room)))
+        × (longer ≤ 4096)
         × (length (step_leaves line size room) ≡ 4096)
-    goes = on room long size within count last rest line (over_is false y)
+    goes = on room long size within count last rest line longer (sym p ∙ y)
 
-    pub next_line : text_of more text ≡ text_from more (take (i + 1 - (i + 1)) (drop (i + 1) text)) (count + 1) (take s.size after) (drop (i + 1) text)
+    pub next_line : text_of more text ≡ text_from more (take (i + 1 - (i + 1)) (drop (i + 1) text)) (count + 1) (take longer after) (drop (i + 1) text)
     next_line =
         let none : i + 1 - (i + 1) ≡ 0 = omega arith in
-        ends ∙ goes.0 ∙ rw (none, p, a)
+        ends ∙ goes.0 ∙ rw (none, a)
 
-    pub next_size : s.size ≤ 4096
-    next_size = rw p goes.1
+    pub next_size : longer ≤ 4096
+    next_size = goes.1
 
     pub next_long : length after ≡ 4096
     next_long = rw a goes.2
-
--- ---- a table has at most 4096 bytes
-
-going : (l : Line) (count : ℕ) (bytes : List ℕ) (last : Bool) (rest : List ℕ → Text) → length bytes ≤ 4096
-    → ((longer : List ℕ) → length longer ≤ 4096 → (made_of (rest longer)).size ≤ 4096) → (made_of (go_on l count bytes last rest)).size ≤ 4096
-going (Record r) count bytes last rest h again = by (leb (length bytes + suc (length (body_of r))) 4096) refl
-  where
-    by : (t : Bool) → leb (length bytes + suc (length (body_of r))) 4096 ≡ t → (made_of (go_on (Record r) count bytes last rest)).size ≤ 4096
-    by true p =
-        rw p
-        (again (bytes ++ (kind_of r ∷ body_of r))
-        (omega (arith, leb-true (length bytes + suc (length (body_of r))) 4096 p, length-append bytes (kind_of r ∷ body_of r))))
-    by false p = rw p (omega arith)
-going Count count bytes last rest h again = by last refl
-  where
-    by : (t : Bool) → last ≡ t → (made_of (go_on Count count bytes last rest)).size ≤ 4096
-    by true p = rw p h
-    by false p = rw p (omega arith)
-going Unreadable count bytes last rest h again = omega arith
-
-from_fits : (more : Bool) (text line : List ℕ) (count : ℕ) (bytes : List ℕ) → length bytes ≤ 4096
-    → (made_of (text_from more line count bytes text)).size ≤ 4096
-unfolding text_from
-from_fits more [] line count bytes h = omega arith
-from_fits more (x ∷ rest) line count bytes h =
-    by (eqb x 10) refl
-    (going (line_of count line) count bytes (is_nil rest && not more) _ h (λ longer g. from_fits more rest [] (count + 1) longer g))
-    (from_fits more rest (line ++ (x ∷ [])) count bytes h)
-  where
-    by : (t : Bool) → eqb x 10 ≡ t
-        → (made_of (go_on (line_of count line) count bytes (is_nil rest && not more) (λ longer. text_from more [] (count + 1) longer rest))).size ≤ 4096
-        → (made_of (text_from more (line ++ (x ∷ [])) count bytes rest)).size ≤ 4096
-        → (made_of (text_from more line count bytes (x ∷ rest))).size ≤ 4096
-    by true p a b = rw p a
-    by false p a b = rw p b
-
-pub made_fits : (more : Bool) (text : List ℕ) (m : Made) → m ≡ made_of (text_of more text) → m.size ≤ 4096
-made_fits more text m e = rw e (from_fits more text [] 0 [] (omega arith))

@@ -1,6 +1,5 @@
 -- `record_behind` meets its contract: the kind's byte and those of the body stand at the front of the room. Assumes nothing.
 use mathlib.Core.Path.{refl}
-use borrow.Author.Tests.{not-false, not-true}
 use Rattle.write_table.proofs.Laws.Line.{body_too_long, no_body, no_kind, whole_record}
 use Rattle.write_table.proofs.line.record_behind.Goals as goal
 
@@ -8,10 +7,10 @@ pub returns-then-all-body-gt64 : goal.returns-then-all-body-gt64
 returns-then-all-body-gt64 c = search body_too_long
 
 pub returns-then-not-pairs_in : goal.returns-then-not-pairs_in
-returns-then-not-pairs_in c = search (no_kind, not-true)
+returns-then-not-pairs_in c = search no_kind
 
 pub returns-then-not-pairs_in-2 : goal.returns-then-not-pairs_in-2
-returns-then-not-pairs_in-2 c = search (no_body, not-false, not-true)
+returns-then-not-pairs_in-2 c = search no_body
 
 pub returns : goal.returns
 returns c =

@@ -2,10 +2,10 @@
 use Rattle.std.proofs.Common.{◌≡◌, ℕ, List, [], ◌∷◌, Bool, true, false, cond, ◌&&◌, eqb, refl, ◌∙◌}
 use lib.Pointwise.{pointwise}
 use Rattle.write_table.specs.Line.{same_of}
-use Rattle.write_table.proofs.words.is_same.Goals as goal
+use Rattle.write_table.proofs.line.is_same.Goals as goal
 
 same_pointwise : (a b : List ℕ) → pointwise eqb a b ≡ same_of a b
-unfolding pointwise same_of
+unfolding same_of
 same_pointwise [] [] = refl
 same_pointwise [] (y ∷ ys) = refl
 same_pointwise (x ∷ xs) [] = refl

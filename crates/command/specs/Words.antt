@@ -1,5 +1,5 @@
 -- What a word of the command line is. Assumes nothing.
-use Rattle.std.specs.Prelude.{ℕ, Bool, true, false, cond, List, [], ◌∷◌, eqb}
+use Rattle.std.specs.Prelude.{ℕ, Bool, false, cond, List, [], ◌∷◌, eqb}
 use Rattle.std.specs.Str.{bytes_eq}
 use Rattle.lines.specs.Reasons.{bytes_of}
 use Rattle.command.specs.declared.words.Word.{Word}

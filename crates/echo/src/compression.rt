@@ -27,17 +27,14 @@ fn xor_in(v: &mut [u8], src: &[u8])
     }
 }
 
-// Xors the fold of src into v: src is `parts` parts of v's size.
-fn fold_in(v: &mut [u8], src: &[u8], parts: usize)
-    requires v_nonzero { 0 < length v.old }
-    requires src_len { length src.now ≡ length v.old * parts }
+// Xors the fold of src into v, part by part of v's size.
+fn fold_in(v: &mut [u8], src: &[u8])
+    requires { 0 < length v.old }
     ensures { v.new ≡ xor_bytes (length v.old) v.old (fold (length v.old) src.now) }
 {
     let c = v.len();
-    for j in 0..parts {
-        let at = c * j;
-        let end = at + c;
-        xor_in(v, &src[at..end]);
+    for part in src.chunks_exact(c) {
+        xor_in(v, part);
     }
 }
 
@@ -50,13 +47,12 @@ fn compress_wide_in(chaining: &mut [u8], block: &[u8], count: u64, counter: Coun
     ensures { chaining.new ≡ Compression·compress (length chaining.old) count (wide_keys_from (halves counter.low counter.high)) salt chaining.old block.now }
 {
     let c = chaining.len();
-    let parts = 256 / c;
     let mut square = [0u8; 256];
     copy_in(&mut square, 0, chaining);
     copy_in(&mut square, c, block);
     run(&mut square, count, counter, salt);
-    fold_in(chaining, block, parts - 1);
-    fold_in(chaining, &square, parts);
+    fold_in(chaining, block);
+    fold_in(chaining, &square);
 }
 
 // The same with a counter of 64 bits that does not outgrow them.

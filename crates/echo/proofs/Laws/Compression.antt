@@ -1,7 +1,8 @@
 -- Xored bytes, folds and BIG.Final, as the code's loops make them. Assumes nothing.
-use Rattle.std.proofs.Common.{◌≡◌, ℕ, zero, suc, ◌+◌, ◌-◌, ◌*◌, ◌/◌, ◌^◌, ◌<◌, ◌≤◌, List, ◌++◌, length, get_or, take, drop, sym, refl, ap, ◌∙◌, ap₂, ⊎_elim, le_refl, not-suc-le-zero, add_comm, mul-le-mul_left, mul-zero, zero-add, mul-suc, add-one, arith, length-append, get_or-drop, get_or-take}
-use native.Mathlib.Nat.{mul-div_cancel_left}
+use Rattle.std.proofs.Common.{◌≡◌, ℕ, zero, suc, ◌+◌, ◌-◌, ◌*◌, ◌/◌, ◌^◌, ◌<◌, ◌≤◌, List, ◌++◌, length, get_or, take, drop, sym, refl, ap, ◌∙◌, subst, ap₂, ⊎_elim, le_refl, not-suc-le-zero, add_comm, mul-le-mul_left, mul-zero, zero-add, mul-suc, add-one, arith, length-append, length-drop, add-zero, drop_at, take_at, get_or-drop, get_or-take}
+use native.Mathlib.Nat.{div-eq_of_lt, mul-add-div, mul-div_cancel_left}
 use lib.Bits.{bit_xor}
+use lib.Seq.{drop-drop}
 use Rattle.aes_round.specs.Bytes.{tab, xor, xor_bytes}
 use Rattle.aes_round.proofs.Promises.{Filled, code_xor, fill_all, get_or-tab, get_or-xor, length-tab, length-xor, lt_or_le, same_list, tab_ext, xor_assoc}
 use Rattle.aes_round.proofs.Promises.{xor_is_tab, xor_zero_l, xor_zero_r}
@@ -21,17 +22,6 @@ xor_all n k l m r F e h = fill_all n _ l k r F h ∙ xor_is_tab n l m ∙ ap (λ
 
 -- ---- the loop over parts
 
--- part j of the n that src has
-module _ (c j n : ℕ) (src : List ℕ) (l : length src ≡ c * n) (h : j < n) where
-  pub part_within : c * j + c ≤ length src
-  part_within = omega (arith, mul-suc c j, mul-le-mul_left c h)
-
-  pub part_fits : length src < 2 ^ 64 → c * j < 2 ^ 64
-  part_fits f = omega (arith, part_within)
-
-  pub part_end_fits : length src < 2 ^ 64 → c * j + c < 2 ^ 64
-  part_end_fits f = omega (arith, part_within)
-
 module _ (c : ℕ) (v₀ src : List ℕ) where
   -- v with the first j parts of src xored in
   pub parts_in : ℕ → List ℕ
@@ -50,8 +40,8 @@ module _ (c : ℕ) (v₀ src : List ℕ) where
 
   module _ (j : ℕ) (v : List ℕ) (e : v ≡ parts_in j) where
     -- the part j is what stands in src from c * j to its end
-    pub next_part_in : length v ≡ c → (r : List ℕ) → r ≡ xor_bytes (length v) v (take (c * j + c - c * j) (drop (c * j) src)) → r ≡ parts_in (j + 1)
-    next_part_in l r x =
+    next_part_in : length v ≡ c → (part r : List ℕ) → part ≡ take c (drop (c * j) src) → r ≡ xor_bytes (length v) v part → r ≡ parts_in (j + 1)
+    next_part_in l part r p x =
         x
         ∙ ap (λ (m : ℕ). xor_bytes m v part) l
         ∙ same_list c _ _ (length-xor c v part) (parts_long (j + 1))
@@ -62,17 +52,62 @@ module _ (c : ℕ) (v₀ src : List ℕ) where
         ∙ ap (λ (n : ℕ). xor (get_or v₀ k 0) (xor_sum n (λ i. get_or src (c * i + k) 0))) (sym (add-one j))
         ∙ sym (summed (j + 1) k h))
       where
-        part : List ℕ
-        part = take (c * j + c - c * j) (drop (c * j) src)
-
         at : (k : ℕ) → k < c → get_or part k 0 ≡ get_or src (c * j + k) 0
-        at k h = get_or-take (c * j + c - c * j) (drop (c * j) src) k 0 (omega arith) ∙ get_or-drop (c * j) src k 0
+        at k h = ap (λ (u : List ℕ). get_or u k 0) p ∙ get_or-take c (drop (c * j) src) k 0 h ∙ get_or-drop (c * j) src k 0
 
-    pub all_parts : (n : ℕ) → 0 < c → length src ≡ c * n → j ≤ n → n ≤ j → v ≡ xor_bytes c v₀ (fold c src)
+    all_parts : j ≡ length src / c → v ≡ xor_bytes c v₀ (fold c src)
     unfolding parts_in fold
-    all_parts n h l most least =
-        let all : j ≡ length src / c = omega (arith, ap (λ (x : ℕ). x / c) l ∙ mul-div_cancel_left n h) in
+    all_parts all =
         e ∙ ap (xor_bytes c v₀) (tab_ext c _ _ (λ k hk. ap (λ (m : ℕ). xor_sum m (λ i. get_or src (c * i + k) 0)) all))
+
+-- the iterator's parts: j have come, and `rest` is left of src
+pub record Parts (c : ℕ) (v₀ src : List ℕ) (j : ℕ) (size : ℕ) (rest v : List ℕ) : Type 0 where
+  pub sized : size ≡ c
+  pub within : c * j ≤ length src
+  pub left : rest ≡ drop (c * j) src
+  pub folded : v ≡ parts_in c v₀ src j
+
+module _ (c : ℕ) (v₀ src : List ℕ) where
+  pub parts_none : (size : ℕ) (rest : List ℕ) → length v₀ ≡ c → size ≡ c → rest ≡ src → Parts c v₀ src 0 size rest v₀
+  parts_none size rest l s r = record {
+    sized = s;
+    within = omega (arith, mul-zero c);
+    left = r ∙ ap (λ (k : ℕ). drop k src) (sym (mul-zero c));
+    folded = no_parts c v₀ src l;
+  }
+
+  module _ (j size : ℕ) (rest v : List ℕ) (P : Parts c v₀ src j size rest v) where
+    -- one part more
+    pub parts_more : length v ≡ c → (j' size' : ℕ) (part rest' r : List ℕ) → j' ≡ j + 1 → size' ≡ size → rest ≡ part ++ rest' → length part ≡ size → r ≡ xor_bytes (length v) v part
+        → Parts c v₀ src j' size' rest' r
+    parts_more lv j' size' part rest' r count s cut lp x = subst (λ (k : ℕ). Parts c v₀ src k size' rest' r) (sym count) record {
+      sized = s ∙ P.sized;
+      within = omega (arith, next, long, lc);
+      left = sym (drop_at part rest' c lc) ∙ ap (drop c) (sym cut ∙ P.left) ∙ drop-drop c (c * j) src ∙ ap (λ (k : ℕ). drop k src) (sym next);
+      folded = next_part_in c v₀ src j v P.folded lv part r (sym (take_at part rest' c lc) ∙ ap (take c) (sym cut ∙ P.left)) x;
+    }
+      where
+        lc : length part ≡ c
+        lc = lp ∙ P.sized
+
+        next : c * (j + 1) ≡ c * j + c
+        next = ap (λ (k : ℕ). c * k) (add-one j) ∙ mul-suc c j
+
+        long : c * j + (length part + length rest') ≡ length src
+        long = omega (arith, P.within, length-drop (c * j) src, ap length (sym P.left ∙ cut) ∙ length-append part rest')
+
+    -- and no more
+    pub parts_all : 0 < c → length rest < size → v ≡ xor_bytes c v₀ (fold c src)
+    parts_all some short =
+        all_parts c v₀ src j v P.folded
+        (sym
+        (ap (λ (n : ℕ). n / c) apart ∙ mul-add-div some j (length src - c * j) ∙ ap (λ (n : ℕ). j + n) (div-eq_of_lt few) ∙ add-zero j))
+      where
+        apart : length src ≡ c * j + (length src - c * j)
+        apart = omega (arith, P.within)
+
+        few : length src - c * j < c
+        few = omega (arith, P.sized, ap length P.left ∙ length-drop (c * j) src)
 
 -- ---- the fold of a loaded square
 

@@ -1,22 +1,22 @@
 -- `fold_in` meets its contract, a part a turn. Assumes nothing.
-use Rattle.std.proofs.Common.{rules}
-use Rattle.echo.proofs.Laws.Compression.{all_parts, next_part_in, no_parts, part_end_fits, part_fits, part_within}
+use Rattle.std.proofs.Common.{refl, sym, ap, ◌∙◌, length-append}
+use Rattle.std.specs.Slice.Iter.{chunks_exact_rest, chunks_exact_size}
+use Rattle.echo.proofs.Laws.Compression.{parts_all, parts_more, parts_none}
 use Rattle.echo.proofs.compression.fold_in.Goals as goal
 
-pub loop-j-init : goal.loop-j-init
-loop-j-init c = (search rules, search rules, search rules, search no_parts)
+pub loop-part-init : goal.loop-part-init
+loop-part-init c =
+    let e = c.into_iter-part-iterator.ensures.into_iter_gives in
+    let s = c.chunks_exact-part-items.ensures in
+    parts_none _ _ _ _ _ refl (ap chunks_exact_size e ∙ s.size) (ap chunks_exact_rest e ∙ s.rest)
 
-pub overflow_mul-at : goal.overflow_mul-at
-overflow_mul-at c = search part_fits
+pub xor_in-requires : goal.xor_in-requires
+xor_in-requires c = c.in-Some.ensures.steps.1.1 ∙ c.loop-part.invariant.sized ∙ sym c.loop-part.auto.v
 
-pub overflow_add-end : goal.overflow_add-end
-overflow_add-end c = search part_end_fits
-
-pub slice_bounds-xor_in-end : goal.slice_bounds-xor_in-end
-slice_bounds-xor_in-end c = search part_within
-
-pub loop-j-preserved : goal.loop-j-preserved
-loop-j-preserved c = (search rules, search rules, search rules, search next_part_in)
+pub loop-part-preserved : goal.loop-part-preserved
+loop-part-preserved c =
+    let s = c.in-Some.ensures.steps in
+    parts_more _ _ _ _ _ _ _ c.loop-part.invariant c.loop-part.auto.v _ _ _ _ _ (length-append c.loop-part.yielded _) s.0 s.1.0 s.1.1 c.xor_in.ensures
 
 pub returns : goal.returns
-returns c = search all_parts
+returns c = parts_all _ _ _ _ _ _ _ c.loop-part.invariant c.requires c.in-None.ensures.steps.1.0

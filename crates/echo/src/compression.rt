@@ -17,7 +17,7 @@ use super::refusal::Refusal;
 use super::refusals::{check_compress, check_compress_wide};
 use super::run::run;
 
-// Xors src into v.
+// Xors src into v. By the place in src, since a proof knows nothing of what is written through a `zip`.
 fn xor_in(v: &mut [u8], src: &[u8])
     requires { length src.now ≡ length v.old }
     ensures { v.new ≡ xor_bytes (length v.old) v.old src.now }

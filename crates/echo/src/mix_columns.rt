@@ -19,7 +19,7 @@ fn mix_words<F: Fn([u8; 4]) -> [u8; 4]>(c: &mut [u8], step: &F)
     }
 }
 
-// The four columns of the square.
+// The four columns of the square, by places: a proof knows nothing of what is written through the parts that `chunks_exact_mut` lends.
 fn each_column<F: Fn([u8; 4]) -> [u8; 4]>(s: &mut [u8], step: F)
     requires callable { F.IsAlwaysCallable step }
     requires s_len { length s.old ≡ 256 }
@@ -40,9 +40,7 @@ pub(crate) fn mix_columns(s: &mut [u8])
         s,
         |column: [u8; 4]|
             ensures { result ≡ mix_column forward column }
-        {
-            aes_round::mix(column)
-        },
+        { aes_round::mix(column) },
     );
 }
 
@@ -54,8 +52,6 @@ pub(crate) fn mix_columns_back(s: &mut [u8])
         s,
         |column: [u8; 4]|
             ensures { result ≡ mix_column backward column }
-        {
-            aes_round::mix_back(column)
-        },
+        { aes_round::mix_back(column) },
     );
 }

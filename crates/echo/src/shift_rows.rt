@@ -29,7 +29,7 @@ fn turn_once(s: &mut [u8], i: usize)
     copy_in(s, 16 * (i + 12), &spare);
 }
 
-// The row i is turned by so many places to the left, one at a time.
+// The row i is turned by so many places to the left, one at a time. The four words don't stand side by side, so that `rotate_left` has no slice of them.
 fn turn_row(s: &mut [u8], i: usize, places: usize)
     requires s_len { length s.old ≡ 256 }
     requires i_bound { i < 4 }

@@ -19,7 +19,8 @@ fn counter_key(counter: Counter, number: u64) -> [u8; 16]
     key
 }
 
-// Each word of the square through `step`, with its number: the word j is that of the number `first` + j.
+// Each word of the square through `step`, with its number: the word j is that of the number `first` + j. By places, since a proof knows nothing of
+// what is written through the words that `chunks_exact_mut` lends.
 fn each_word<F: Fn([u8; 16], u64) -> [u8; 16]>(s: &mut [u8], first: u64, step: F)
     requires callable { F.IsAlwaysCallable step }
     requires s_len { length s.old ≡ 256 }
@@ -42,9 +43,7 @@ pub(crate) fn sub_words(s: &mut [u8], counter: Counter, first: u64, salt: [u8; 1
         first,
         |w: [u8; 16], number: u64|
             ensures { result ≡ aes_round (aes_round w (wide_keys_from (halves counter.low counter.high) number)) salt }
-        {
-            aes_round::two_rounds(w, counter_key(counter, number), salt)
-        },
+        { aes_round::two_rounds(w, counter_key(counter, number), salt) },
     );
 }
 
@@ -58,8 +57,6 @@ pub(crate) fn sub_words_back(s: &mut [u8], counter: Counter, first: u64, salt: [
         first,
         |w: [u8; 16], number: u64|
             ensures { result ≡ aes_round_back (aes_round_back w salt) (wide_keys_from (halves counter.low counter.high) number) }
-        {
-            aes_round::two_rounds_back(w, counter_key(counter, number), salt)
-        },
+        { aes_round::two_rounds_back(w, counter_key(counter, number), salt) },
     );
 }

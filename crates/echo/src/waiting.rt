@@ -15,7 +15,7 @@ pub(crate) fn zeros_from(bytes: &[u8], at: usize) -> bool
 }
 
 impl Session {
-    // Compresses the waiting block.
+    // Compresses the waiting block. The chaining room is copied out and back, since two fields can't be lent at once here.
     pub(crate) fn compress(&mut self, counter: u64)
         requires { counter ≤ 2 ^ 64 - 161 }
         ensures { self.new ≡ made self.old.mode self.old.bits self.old.salt (compressed self.old.mode self.old.bits self.old.salt self.old.chaining counter (take (block_of self.old) self.old.waiting)) self.old.taken self.old.waiting }

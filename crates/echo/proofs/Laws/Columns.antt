@@ -200,9 +200,6 @@ module _ (m l : List ℕ) where
     placed : Placed s (64 * j) w (64 * j + 64 - 64 * j) (turned j s w)
     placed = part_placed s w (64 * j) (64 * j + 64 - 64 * j) (omega arith) (ap length e ∙ length_mix_words m (part j s) ∙ sym size)
 
-    pub turn_long : length (turned j s w) ≡ 256
-    turn_long = placed.long ∙ ls
-
     pub turn_mixes : Columns (j + 1) (turned j s w)
     turn_mixes =
         next_column j s (part j s) (turned j s w) F h

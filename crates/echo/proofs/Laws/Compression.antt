@@ -1,5 +1,5 @@
 -- Xored bytes, folds and BIG.Final, as the code's loops make them. Assumes nothing.
-use Rattle.std.proofs.Common.{◌≡◌, ℕ, zero, suc, ◌+◌, ◌-◌, ◌*◌, ◌/◌, ◌^◌, ◌<◌, ◌≤◌, List, ◌++◌, length, get_or, take, drop, sym, refl, ap, ◌∙◌, subst, ap₂, ⊎_elim, le_refl, not-suc-le-zero, add_comm, mul-le-mul_left, mul-zero, zero-add, mul-suc, add-one, arith, length-append, length-drop, add-zero, drop_at, take_at, get_or-drop, get_or-take}
+use Rattle.std.proofs.Common.{◌≡◌, ℕ, zero, suc, ◌+◌, ◌-◌, ◌*◌, ◌/◌, ◌<◌, ◌≤◌, List, ◌++◌, length, get_or, take, drop, sym, refl, ap, ◌∙◌, subst, ap₂, ⊎_elim, le_refl, not-suc-le-zero, add_comm, mul-zero, zero-add, mul-suc, add-one, arith, length-append, length-drop, add-zero, drop_at, take_at, get_or-drop, get_or-take}
 use native.Mathlib.Nat.{div-eq_of_lt, mul-add-div, mul-div_cancel_left}
 use lib.Bits.{bit_xor}
 use lib.Seq.{drop-drop}
@@ -159,10 +159,6 @@ block_parts c b (suc p) h e = omega (arith, mul-suc c p, ap (λ (n : ℕ). c * n
   where
     less : (p : ℕ) → suc p - 1 ≡ p
     less p = omega arith
-
--- a square is as many parts as its length divided by theirs
-pub square_parts : (c : ℕ) (v w : List ℕ) → length v ≡ c → length w ≡ 256 → 256 ≡ c * (256 / c) → length w ≡ length v * (256 / c)
-square_parts c v w lv lw e = lw ∙ e ∙ ap (λ (n : ℕ). n * (256 / c)) (sym lv)
 
 -- the chaining variable and the block, copied into a square one behind the other
 loaded : (z v m s t : List ℕ) → length z ≡ 256 → length v + length m ≡ 256 → Placed z 0 v (length v) s → Placed s (length v) m (length m) t → t ≡ v ++ m

@@ -1,5 +1,5 @@
 -- The blocks that are left when a message ends: waiting bytes and padding. Assumes nothing.
-use Rattle.std.proofs.Common.{◌≡◌, ℕ, zero, suc, ◌+◌, ◌-◌, ◌*◌, ◌/◌, ◌%◌, ◌^◌, ◌<◌, ◌≤◌, min, Bool, true, false, eqb, ltb, List, ◌∷◌, ◌++◌, length, get_or, take, drop, set, replicate, sym, refl, ap, ◌∙◌, subst, ap₂, ⊎_elim, append_assoc, add-zero, mod-lt, mod-eq_of_lt, mul-zero, mul-one, mul-add, arith, length-append, length-set, length-take-le, take_all, get_or-set_other, get_or-take, get_or-set_same, take_at, drop_at, le-ltb, lt-ltb, eq-eqb, ne_eqb}
+use Rattle.std.proofs.Common.{◌≡◌, ℕ, zero, suc, ◌+◌, ◌-◌, ◌*◌, ◌/◌, ◌%◌, ◌^◌, ◌<◌, ◌≤◌, min, Bool, true, eqb, ltb, List, ◌∷◌, ◌++◌, length, get_or, take, drop, set, replicate, sym, refl, ap, ◌∙◌, subst, ap₂, ⊎_elim, append_assoc, add-zero, mod-lt, mod-eq_of_lt, mul-zero, mul-one, mul-add, arith, length-append, length-set, length-take-le, take_all, get_or-set_other, get_or-take, get_or-set_same, take_at, drop_at, le-ltb, lt-ltb, eq-eqb, ne_eqb}
 use native.Mathlib.Nat.{div-add-mod, div-eq_of_lt, min-eq_left, mul-add-div, mul-add-mod_self_left}
 use lib.ListN.{get_or-replicate, length-replicate, replicate-append-replicate}
 use Rattle.aes_round.proofs.Promises.{length-xor, lt_or_le, same_list}
@@ -11,7 +11,7 @@ use Rattle.echo.specs.Digest.{block, block_count, counter_at, iterate}
 use Rattle.echo.specs.Families.{block_size, chaining_size, either, round_count}
 use Rattle.echo.specs.Padding.{padding}
 use Rattle.echo.specs.Placed.{Placed}
-use Rattle.echo.specs.Session.{all_zero, bit_limit, block_of, chaining_of, compressed, final_chaining, made}
+use Rattle.echo.specs.Session.{all_zero, block_of, chaining_of, compressed, final_chaining, made}
 use Rattle.echo.specs.Square.{keys_from}
 use Rattle.echo.proofs.Laws.Bits.{Part, take_part, zero_within}
 use Rattle.echo.proofs.Laws.Counting.{bits_mod, div_on, mod_on}
@@ -354,21 +354,10 @@ pub part_clear : (mode : Mode) (h L b : ℕ) → b ≡ block_size mode h → (w 
 part_clear mode h L b size w lw z =
     ap (λ (x : ℕ). all_zero (drop (L % 8) (byte_bits (get_or w (L / 8 % x) 0)))) size ∙ (part_is mode h L w lw z).clear
 
--- the counter of a block that is left is low enough
-end_counter_fits : (u L : ℕ) → L ≤ bit_limit → either (eqb u 0) 0 L ≤ 2 ^ 64 - 161
-end_counter_fits u L h = by (eqb u 0)
-  where
-    by : (t : Bool) → either t 0 L ≤ 2 ^ 64 - 161
-    by true = omega arith
-    by false = omega arith
-
--- the same of the block size b and the counter k that the code has
+-- of the block size b and the counter k that the code has
 module _ (mode : Mode) (h L b k : ℕ) (size : b ≡ block_size mode h) (counter : k ≡ either (eqb (L % (8 * b)) 0) 0 L) where
   counter_is : k ≡ either (eqb (L % (8 * block_size mode h)) 0) 0 L
   counter_is = counter ∙ ap (λ (x : ℕ). either (eqb (L % (8 * x)) 0) 0 L) size
-
-  pub counter_fits : L ≤ bit_limit → k ≤ 2 ^ 64 - 161
-  counter_fits m = omega (arith, counter_is, end_counter_fits (L % (8 * block_size mode h)) L m)
 
   -- and of the marked byte y
   module _ (salt v w : List ℕ) (lw : length w ≡ 224) (z : all_zero (drop (L % (8 * block_size mode h)) (bits_of w)) ≡ true)

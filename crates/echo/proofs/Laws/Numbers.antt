@@ -1,7 +1,7 @@
 -- Numbers as bytes. Assumes nothing.
-use Rattle.std.proofs.Common.{◌≡◌, ℕ, zero, suc, ◌+◌, ◌-◌, ◌*◌, ◌/◌, ◌%◌, ◌^◌, ◌<◌, ◌≤◌, T, eqb, List, [], ◌∷◌, ◌++◌, length, get_or, replicate, sym, refl, ap, ◌∙◌, ap₂, ⊎_elim, append-nil, lt_of_lt_of_le, mod-lt, mul_assoc, mul_comm, pow-suc, zero-add, div-one, arith, lit<, length-append, pow-add, drop, drop_at, drop_of_length-le, take_at}
+use Rattle.std.proofs.Common.{◌≡◌, ℕ, zero, suc, ◌+◌, ◌-◌, ◌*◌, ◌/◌, ◌%◌, ◌^◌, ◌<◌, ◌≤◌, T, eqb, List, ◌∷◌, ◌++◌, length, get_or, replicate, sym, refl, ap, ◌∙◌, ap₂, ⊎_elim, append-nil, mod-lt, mul_assoc, mul_comm, pow-suc, zero-add, div-one, arith, lit<, length-append, pow-add, drop, drop_at, drop_of_length-le, take_at}
 use native.Mathlib.Nat.{add-mul-div_left, add-mul-mod_self_left, div-div-eq-div-mul, div-eq_of_lt}
-use native.Mathlib.Nat.{one-le-pow, pow-le-pow_right}
+use native.Mathlib.Nat.{one-le-pow}
 use lib.ListN.{get_or-replicate}
 use Rattle.std.specs.Int.{byte_at, bytes_low_first}
 use borrow.Rule.Slice.PartMut.{put_mid}

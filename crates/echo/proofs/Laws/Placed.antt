@@ -1,29 +1,11 @@
--- Bytes put into a lent slice: what a loop that stores them does turn by turn, and what its result is. Assumes nothing.
-use Rattle.std.proofs.Common.{◌≡◌, ℕ, ◌+◌, ◌-◌, ◌<◌, ◌≤◌, List, ◌++◌, length, get_or, take, drop, set, replicate, sym, refl, ap, ◌∙◌, subst, ⊎_elim, not-suc-le-zero, zero-add, arith, length-append, length-drop, length-set, length-take-le, get_or-drop, get_or-set_other, get_or-take, get_or-set_same, below_more}
-use lib.ListN.{length-replicate}
+-- Bytes put into a lent slice, and read from one. Assumes nothing.
+use Rattle.std.proofs.Common.{◌≡◌, ℕ, ◌+◌, ◌-◌, ◌<◌, ◌≤◌, List, ◌++◌, length, get_or, take, drop, sym, ap, ◌∙◌, ⊎_elim, zero-add, arith, length-append, length-drop, length-take-le, get_or-drop, get_or-take}
 use Rattle.std.specs.List.{between}
 use Rattle.std.proofs.lemmas.List.Edits.{get_or-between}
 use Rattle.aes_round.specs.Bytes.{tab}
 use Rattle.aes_round.proofs.Promises.{Filled, is_tab, lt_or_le, same_list}
 use Rattle.echo.specs.Placed.{Placed}
 use Rattle.echo.proofs.Laws.Joined.{first_part, second_part}
-
-module _ (l : List ℕ) (at : ℕ) (w : List ℕ) where
-  pub place_none : Placed l at w 0 l
-  place_none = record { long = refl; before = λ k h. refl; inside = λ k h. absurd (not-suc-le-zero h); behind = λ k h. refl }
-
-  pub place_more : (n : ℕ) (r : List ℕ) (v : ℕ) → Placed l at w n r → at + n < length l → v ≡ get_or w n 0 → Placed l at w (n + 1) (set r (at + n) v)
-  place_more n r v P h e = record {
-    long = length-set r (at + n) v ∙ P.long;
-    before = λ k lt. get_or-set_other r (at + n) k v 0 (λ q. omega arith) ∙ P.before k lt;
-    inside = below_more (λ k. get_or (set r (at + n) v) (at + k) 0 ≡ get_or w k 0) n
-        (λ k lt. get_or-set_other r (at + n) (at + k) v 0 (λ q. omega arith) ∙ P.inside k lt)
-        (get_or-set_same r (at + n) v 0 (subst (λ (m : ℕ). at + n < m) (sym P.long) h) ∙ e);
-    behind = λ k le. get_or-set_other r (at + n) k v 0 (λ q. omega arith) ∙ P.behind k (omega arith);
-  }
-
-  pub place_all : (i n m : ℕ) (r : List ℕ) → Placed l at w i r → i ≤ n → n ≤ i → n ≡ m → Placed l at w m r
-  place_all i n m r P most least e = let all : i ≡ m = omega arith in subst (λ (k : ℕ). Placed l at w k r) all P
 
 -- bytes placed at the front of room
 pub placed_front : (room w r : List ℕ) (n : ℕ) → length w ≡ n → n ≤ length room → Placed room 0 w n r → r ≡ w ++ drop n room

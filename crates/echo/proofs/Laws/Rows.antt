@@ -145,15 +145,6 @@ module _ (places : ℕ → ℕ) where
     pub done : (e : ℕ) → e < 16 → e % 4 < i → word s e ≡ word l (from e)
     pub rest : (e : ℕ) → e < 16 → i ≤ e % 4 → word s e ≡ word l e
 
-  -- the row 0 stays where it is
-  pub first_row : places 0 % 4 ≡ 0 → (l : List ℕ) → Rows l 1 l
-  first_row stays l = record { done = λ e h lt. ap (word l) (whole e h lt); rest = λ e h le. refl }
-    where
-      whole : (e : ℕ) → e < 16 → e % 4 < 1 → e ≡ from e
-      whole e h lt =
-          (let here : e ≡ 0 + 4 * ((e / 4 + places 0) % 4) = omega (arith, stays) in here)
-          ∙ ap (λ (k : ℕ). k + 4 * ((e / 4 + places k) % 4)) (let first : 0 ≡ e % 4 = omega arith in first)
-
   pub next_row : (l s t : List ℕ) (i : ℕ) → Rows l i s → ((j : ℕ) → j < 4 → word t (i + 4 * j) ≡ word s (i + 4 * ((j + places i) % 4)))
       → ((e : ℕ) → e % 4 ≢ i → word t e ≡ word s e) → i < 4 → Rows l (i + 1) t
   next_row l s t i R along others low = record {

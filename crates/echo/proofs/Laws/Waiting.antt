@@ -1,9 +1,5 @@
 -- The waiting block of a session: where its next byte stands, a byte and a piece more, and the block compressed. Assumes nothing.
-use Rattle.std.proofs.Common.{◌≡◌, ℕ, zero, suc, ◌+◌, ◌-◌, ◌*◌, ◌/◌, ◌%◌, ◌^◌, ◌<◌, ◌≤◌, Bool, true, false, List, [], ◌∷◌, ◌++◌, length, get_or, take, drop, set, replicate, sym, refl, ap, ◌∙◌, subst, ap₂, add-zero, mod-lt, add-one, arith, drop_of_length-le, length-take-le, drop-cons, get_or-take, eq-eqb, ne_eqb, eqb}
-use lib.ListN.{get_or-replicate, length-replicate}
-use lib.Seq.{drop-length}
-use Rattle.aes_round.specs.Bytes.{tab}
-use Rattle.aes_round.proofs.Promises.{is_tab}
+use Rattle.std.proofs.Common.{◌≡◌, ℕ, zero, suc, ◌+◌, ◌*◌, ◌/◌, ◌%◌, ◌^◌, ◌<◌, ◌≤◌, Bool, true, false, List, [], ◌∷◌, ◌++◌, length, get_or, take, drop, set, replicate, sym, refl, ap, ◌∙◌, subst, ap₂, add-zero, mod-lt, add-one, arith, drop_of_length-le, length-take-le, drop-cons, eq-eqb, ne_eqb, eqb}
 use Rattle.echo.specs.declared.mode.Mode.{Mode}
 use Rattle.echo.specs.declared.session.Session.{Session}
 use Rattle.echo.specs.Compression.{compress}
@@ -145,9 +141,6 @@ module _ (s₀ : Session) (piece : List ℕ) (n : ℕ) where
 -- ---- the waiting block compressed, by sizes c and b and a round count n that the code computed
 
 module _ (mode : Mode) (bits c : ℕ) (p : c ≡ chaining_size mode bits) where
-  pub lent_counters : (counter n : ℕ) → n ≡ round_count mode c → counter ≤ 2 ^ 64 - 161 → counter + 16 * n ≤ 2 ^ 64
-  lent_counters counter n r k = let S = sizes mode bits in omega (arith, ap (round_count mode) p)
-
   module _ (v : List ℕ) (lv : length v ≡ 128) where
     pub lent_within : c ≤ length v
     lent_within = let S = sizes mode bits in omega arith

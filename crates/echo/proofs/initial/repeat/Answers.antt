@@ -1,5 +1,5 @@
 -- `repeat` meets its contract: the loop fills the list from the front. Assumes nothing.
-use Rattle.std.proofs.Common.{refl, rules}
+use Rattle.std.proofs.Common.{refl}
 use Rattle.aes_round.proofs.Promises.{fill_all, fill_more, fill_none}
 use Rattle.echo.proofs.initial.repeat.Goals as goal
 

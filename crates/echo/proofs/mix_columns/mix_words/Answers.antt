@@ -1,6 +1,6 @@
 -- `mix_words` meets its contract, a byte position a turn. Assumes nothing.
 use Rattle.std.proofs.Common.{rules}
-use Rattle.echo.proofs.Laws.Columns.{mixed_all, mixed_more, mixed_none}
+use Rattle.echo.proofs.Laws.Columns.{mixed_all, mixed_more}
 use Rattle.echo.proofs.mix_columns.mix_words.Goals as goal
 
 pub loop-b-preserved : goal.loop-b-preserved

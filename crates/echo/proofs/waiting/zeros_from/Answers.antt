@@ -1,5 +1,5 @@
 -- `zeros_from` meets its contract: the test of each byte from the place on. Assumes nothing.
-use Rattle.std.proofs.Common.{rules, tests, eqb, length, drop, ap, ◌∙◌, le_refl}
+use Rattle.std.proofs.Common.{rules, tests, eqb, length, ap, ◌∙◌, le_refl}
 use Rattle.std.specs.List.{between}
 use Rattle.std.proofs.lemmas.Iterator.{YieldsList-from_slice}
 use Rattle.std.proofs.lemmas.Iterator.Search.{all_from_yields_List}

@@ -1,5 +1,5 @@
 -- `close` meets its contract: the lengths stand in the block's last eighteen bytes. Assumes nothing.
-use Rattle.std.proofs.Common.{List, ap, rules}
+use Rattle.std.proofs.Common.{ap, rules}
 use Rattle.echo.specs.declared.session.Session.{Session}
 use Rattle.echo.proofs.Laws.Ends.{closed_block, lengths_fit, lengths_within}
 use Rattle.echo.proofs.session.Session.close.Goals as goal

@@ -1,5 +1,4 @@
 -- `finish` meets its contract: one block or two are left, by whether the padding fits behind the waiting bits. Assumes nothing.
-use Rattle.std.proofs.Common.{rules}
 use Rattle.echo.proofs.Laws.Ends.{ends_in_one, ends_in_two, part_clear}
 use Rattle.echo.proofs.Laws.Waiting.{block_bits_fit, place_in, some_block, some_block_bits}
 use Rattle.echo.proofs.session.Session.finish.Goals as goal

@@ -24,7 +24,8 @@ fn byte_in(high: u8, low: u8) -> Option<u8>
     Some(16 * nibble(high)? + nibble(low)?)
 }
 
-// The bytes of at most N pairs of digits, with zeros behind them.
+// The bytes of at most N pairs of digits, with zeros behind them. (They are written by index: of what a zip of `iter_mut` wrote, a proof knows
+// no element.)
 #[tactic(auto, unfolding(crate::specs::Hexadecimal::bytes_of))]
 pub fn bytes_in<const N: usize>(text: &[u8]) -> Option<[u8; N]>
     ensures { result ≡ bytes_of N text.now }

@@ -21,7 +21,8 @@ pub(crate) struct Terms {
     pub salt: [u8; 16],
 }
 
-// What a line says. The digest has zeros behind it, and the name stands from one place up to another.
+// What a line says. The digest has zeros behind it, and the name stands from one place up to another. (Places and no slice: what a contract
+// says of a line is a value, and no value of it is a reference into the line.)
 #[derive(Clone, Copy)]
 pub(crate) struct Listed {
     pub mode: Mode,

@@ -87,7 +87,7 @@ pub record Absorbed (s₀ : Session) (piece : List ℕ) (n i : ℕ) (s : Session
   pub leads : add_bytes s (drop i (take n piece)) ≡ add_bytes s₀ (take n piece)
 
 module _ (s₀ : Session) (piece : List ℕ) (n : ℕ) where
-  pub absorb_none : (b : ℕ) → b ≡ block_of s₀ → Absorbed s₀ piece n 0 s₀ (s₀.taken / 8 % b)
+  pub absorb_none : (b : ℕ) → b ≡ block_of s₀ → Absorbed s₀ piece n 0 (made s₀.mode s₀.bits s₀.salt s₀.chaining s₀.taken s₀.waiting) (s₀.taken / 8 % b)
   absorb_none b size = record { within = omega arith; taken = sym (add-zero s₀.taken); place = ap (λ (x : ℕ). s₀.taken / 8 % x) size; leads = refl }
 
   module _ (i : ℕ) (s : Session) (at : ℕ) (A : Absorbed s₀ piece n i s at) where
@@ -118,9 +118,11 @@ module _ (s₀ : Session) (piece : List ℕ) (n : ℕ) where
           let none : drop n (take n piece) ≡ [] = drop_of_length-le (take n piece) short in
           sym (ap (add_bytes s) (ap (λ (k : ℕ). drop k (take n piece)) e ∙ none)) ∙ A.leads ∙ ap (λ (k : ℕ). add_bytes s₀ (take k piece)) whole
 
-      pub absorb_whole : count % 8 ≡ 0 → s ≡ add_bits s₀ piece count
+      pub absorb_whole : count % 8 ≡ 0 → (L : ℕ) → L ≡ s₀.taken → made s.mode s.bits s.salt s.chaining (L + count) s.waiting ≡ add_bits s₀ piece count
       unfolding add_bits add_part
-      absorb_whole none = absorb_all ∙ rw (eq-eqb (count % 8) 0 none)
+      absorb_whole none L kept =
+          let sum : L + count ≡ s.taken = omega (arith, A.taken, A.within) in
+          ap (λ (k : ℕ). made s.mode s.bits s.salt s.chaining k s.waiting) sum ∙ absorb_all ∙ rw (eq-eqb (count % 8) 0 none)
 
       -- and the part byte
       module _ (some : count % 8 ≡ 0 → ⊥) where
@@ -131,12 +133,11 @@ module _ (s₀ : Session) (piece : List ℕ) (n : ℕ) where
             by zero e = absurd (some e)
             by (suc r) e = omega arith
 
-        pub part_fits : s₀.taken + count ≤ bit_limit → s.taken + count % 8 < 2 ^ 64
-        part_fits fits = omega (arith, A.taken)
-
-        pub absorb_part : made s.mode s.bits s.salt s.chaining (s.taken + count % 8) (set s.waiting at (get_or piece n 0)) ≡ add_bits s₀ piece count
+        pub absorb_part : (L : ℕ) → L ≡ s₀.taken → made s.mode s.bits s.salt s.chaining (L + count) (set s.waiting at (get_or piece n 0)) ≡ add_bits s₀ piece count
         unfolding add_bits add_part
-        absorb_part = rw (← absorb_all, ne_eqb (count % 8) 0 some, A.place, whole)
+        absorb_part L kept =
+            let sum : L + count ≡ s.taken + count % 8 = omega (arith, A.taken, A.within) in
+            rw (← absorb_all, ne_eqb (count % 8) 0 some, sum, A.place, whole)
 
 -- ---- the waiting block compressed, by sizes c and b and a round count n that the code computed
 

@@ -1,4 +1,7 @@
 -- `put` meets its contract: the byte waits, or fills the block. Assumes nothing.
+use Rattle.std.proofs.Common.{◌+◌, ap, rules}
+use Rattle.echo.specs.declared.session.Session.{Session}
+use Rattle.echo.specs.Session.{made}
 use Rattle.echo.proofs.Laws.Waiting.{first_place, next_place, place_small, put_full, put_more}
 use Rattle.echo.proofs.session.Session.put.Goals as goal
 
@@ -6,13 +9,19 @@ pub bounds-self-at : goal.bounds-self-at
 bounds-self-at c = search place_small
 
 pub returns-then-at-block_size-clause-value : goal.returns-then-at-block_size-clause-value
-returns-then-at-block_size-clause-value c = search next_place
+returns-then-at-block_size-clause-value c =
+    next_place (made c.args.self.now.mode c.args.self.now.bits c.args.self.now.salt c.args.self.now.chaining c.args.taken c.args.self.now.waiting) _ _ c.requires.at_value c.block_size.ensures (search rules)
 
 pub returns-then-at-block_size-clause-after : goal.returns-then-at-block_size-clause-after
-returns-then-at-block_size-clause-after c = search put_more
+returns-then-at-block_size-clause-after c =
+    put_more (made c.args.self.now.mode c.args.self.now.bits c.args.self.now.salt c.args.self.now.chaining c.args.taken c.args.self.now.waiting) _ _ c.requires.at_value c.block_size.ensures (search rules) c.args.x
 
 pub returns-clause-value : goal.returns-clause-value
-returns-clause-value c = search first_place
+returns-clause-value c =
+    first_place (made c.args.self.now.mode c.args.self.now.bits c.args.self.now.salt c.args.self.now.chaining c.args.taken c.args.self.now.waiting) _ _ c.requires.at_value c.block_size.ensures (search rules) c.args.x _
+    (ap (λ (u : Session). made u.mode u.bits u.salt u.chaining (c.args.taken + 8) u.waiting) c.compress.ensures)
 
 pub returns-clause-after : goal.returns-clause-after
-returns-clause-after c = search put_full
+returns-clause-after c =
+    put_full (made c.args.self.now.mode c.args.self.now.bits c.args.self.now.salt c.args.self.now.chaining c.args.taken c.args.self.now.waiting) _ _ c.requires.at_value c.block_size.ensures (search rules) c.args.x _
+    (ap (λ (u : Session). made u.mode u.bits u.salt u.chaining (c.args.taken + 8) u.waiting) c.compress.ensures)

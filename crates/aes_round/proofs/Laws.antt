@@ -1,5 +1,6 @@
 pub mod Every
 pub mod Bytes
+pub mod Made
 pub mod Xor
 pub mod Linear
 pub mod Field

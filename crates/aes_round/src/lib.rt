@@ -7,8 +7,7 @@
 // or, forward, by tables that are made once, on a word and a key of four numbers of 32 bits:
 //
 //     let tables = aes_round::row_tables();
-//     let t = tables.row_0;                       // and u, v and w, of rows 1 to 3
-//     let out = aes_round::round_by_tables(&t, &u, &v, &w, word, key);
+//     let out = aes_round::round_by_tables(&tables, word, key);
 //
 // with the field of bytes, the substitution and the mix of a column that it is made of. No routine refuses anything: each is
 // total, and its contract is an equation with a definition of specs/. What the layer above needs to know of those definitions
@@ -27,6 +26,7 @@ mod sub_back_table;
 mod sub_table;
 mod substitution;
 mod tables;
+mod way;
 
 pub use by_tables::round_by_tables;
 pub use field::{double, times};

@@ -1,43 +1,40 @@
 // The mix of a column of four bytes, and its way back.
-ghost use Rattle.std.specs.Prelude.{◌≡◌};
+ghost use Rattle.std.specs.Prelude.{◌≡◌, get_or};
 ghost use Rattle.aes_round.specs.Mixing.{backward, dot, forward, mix_column};
 
 use super::field::times;
+use super::way::{Back, Forth, Way};
+use std::array;
 
 // The coefficients, row by row.
-const FORWARD: [u8; 16] = [2, 3, 1, 1, 1, 2, 3, 1, 1, 1, 2, 3, 3, 1, 1, 2];
+pub(crate) const FORWARD: [u8; 16] = [2, 3, 1, 1, 1, 2, 3, 1, 1, 1, 2, 3, 3, 1, 1, 2];
 
-const BACKWARD: [u8; 16] = [14, 11, 13, 9, 9, 14, 11, 13, 13, 9, 14, 11, 11, 13, 9, 14];
+pub(crate) const BACKWARD: [u8; 16] = [14, 11, 13, 9, 9, 14, 11, 13, 13, 9, 14, 11, 11, 13, 9, 14];
 
-// Four coefficients times a column.
-fn product(p: u8, q: u8, r: u8, s: u8, c: [u8; 4]) -> u8
-    ensures { result ≡ dot p q r s c }
+// A row of four coefficients times a column.
+#[tactic(auto, unfolding(crate::specs::Mixing::dot, crate::specs::Bytes::xor))]
+fn product(row: [u8; 4], c: [u8; 4]) -> u8
+    ensures { result ≡ dot (get_or row 0 0) (get_or row 1 0) (get_or row 2 0) (get_or row 3 0) c }
 {
-    (times(p, c[0]) ^ times(q, c[1])) ^ (times(r, c[2]) ^ times(s, c[3]))
+    (times(row[0], c[0]) ^ times(row[1], c[1])) ^ (times(row[2], c[2]) ^ times(row[3], c[3]))
 }
 
-// The two name their own matrix and take its coefficients by literal index, so that they fold into the code. Over one function for both
-// matrices they don't, since the compiler does not inline it twice, and a digest takes ten times as long.
+// A column times the matrix of the way W.
+pub(crate) fn mix_by<W: Way>(c: [u8; 4]) -> [u8; 4]
+    ensures { result ≡ mix_column W.matrix c }
+{
+    let m = W::coefficients();
+    array::from_fn(|i| product([m[4 * i], m[4 * i + 1], m[4 * i + 2], m[4 * i + 3]], c))
+}
+
 pub fn mix(c: [u8; 4]) -> [u8; 4]
     ensures { result ≡ mix_column forward c }
 {
-    let m = FORWARD;
-    [
-        product(m[0], m[1], m[2], m[3], c),
-        product(m[4], m[5], m[6], m[7], c),
-        product(m[8], m[9], m[10], m[11], c),
-        product(m[12], m[13], m[14], m[15], c),
-    ]
+    mix_by::<Forth>(c)
 }
 
 pub fn mix_back(c: [u8; 4]) -> [u8; 4]
     ensures { result ≡ mix_column backward c }
 {
-    let m = BACKWARD;
-    [
-        product(m[0], m[1], m[2], m[3], c),
-        product(m[4], m[5], m[6], m[7], c),
-        product(m[8], m[9], m[10], m[11], c),
-        product(m[12], m[13], m[14], m[15], c),
-    ]
+    mix_by::<Back>(c)
 }

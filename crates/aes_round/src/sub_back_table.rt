@@ -1,5 +1,4 @@
 // The inverse substitution of FIPS 197 as a table: entry x is what becomes of the byte x.
-// Each mention of a constant array builds it on the stack, so a caller takes the table once for a word and lends it.
 
 pub(crate) const SUB_BACK: [u8; 256] = [
     0x52, 0x09, 0x6a, 0xd5, 0x30, 0x36, 0xa5, 0x38, 0xbf, 0x40, 0xa3, 0x9e, 0x81, 0xf3, 0xd7, 0xfb,

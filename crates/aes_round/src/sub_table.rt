@@ -1,5 +1,4 @@
 // The substitution of FIPS 197 as a table: entry x is what becomes of the byte x.
-// Each mention of a constant array builds it on the stack, so a caller takes the table once for a word and lends it.
 
 pub(crate) const SUB: [u8; 256] = [
     0x63, 0x7c, 0x77, 0x7b, 0xf2, 0x6b, 0x6f, 0xc5, 0x30, 0x01, 0x67, 0x2b, 0xfe, 0xd7, 0xab, 0x76,

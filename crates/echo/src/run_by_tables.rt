@@ -1,6 +1,6 @@
 // Runs of BIG.Round by tables: the square is 64 numbers of 32 bits from the first round to the last, and a round is two steps on them.
 ghost use Rattle.std.specs.Prelude.{◌≡◌, ◌+◌, ◌*◌, ◌^◌, ◌<◌, ◌≤◌, length};
-ghost use Rattle.aes_round.specs.ByTables.{row_table};
+ghost use Rattle.aes_round.specs.ByTables.{row_tables};
 ghost use Rattle.aes_round.specs.Numbers.{bytes_of, numbers};
 ghost use Rattle.aes_round.specs.Rounds.{aes_round};
 ghost use Rattle.echo.specs.Numbers.{halves};
@@ -9,69 +9,64 @@ ghost use Rattle.echo.specs.Square.{rounds as Square·rounds};
 
 use super::counter::{Counter, count_on};
 use super::numbers::{numbers_of_square, numbers_of_word, put_numbers};
+use aes_round::RowTables;
 
-// The word of that number through two AES rounds: the first key is its counter, and the second one the salt.
-fn word_by_tables(
-    t: &[u32; 256],
-    u: &[u32; 256],
-    v: &[u32; 256],
-    w: &[u32; 256],
-    word: [u32; 4],
+// What the rounds of a run share: the tables, the counter that the run starts from, and the salt, which is the key of each second AES round.
+#[derive(Clone, Copy)]
+struct Run<'a> {
+    tables: &'a RowTables,
     counter: Counter,
-    number: u64,
     salt: [u32; 4],
-) -> [u32; 4]
-    requires t_value { t.now ≡ row_table 0 }
-    requires u_value { u.now ≡ row_table 1 }
-    requires v_value { v.now ≡ row_table 2 }
-    requires w_value { w.now ≡ row_table 3 }
-    ensures { result ≡ numbers 4 (aes_round (aes_round (bytes_of 4 word) (wide_keys_from (halves counter.low counter.high) number)) (bytes_of 4 salt)) }
-{
-    let at = count_on(counter, number);
-    let low = at.low;
-    let high = at.high;
-    let key = [
-        (low % 0x1_0000_0000) as u32,
-        (low / 0x1_0000_0000) as u32,
-        (high % 0x1_0000_0000) as u32,
-        (high / 0x1_0000_0000) as u32,
-    ];
-    let once = aes_round::round_by_tables(t, u, v, w, word, key);
-    aes_round::round_by_tables(t, u, v, w, once, salt)
+    ghost tables_of_the_rows: { tables.now ≡ row_tables },
 }
 
-// BIG.SubWords (section 3.1), a word after the other where it stands: the word i is that of the number `first` + i.
-fn sub_numbers(
-    t: &[u32; 256],
-    u: &[u32; 256],
-    v: &[u32; 256],
-    w: &[u32; 256],
-    s: [u32; 64],
-    counter: Counter,
-    first: u64,
-    salt: [u32; 4],
-) -> [u32; 64]
-    requires t_value { t.now ≡ row_table 0 }
-    requires u_value { u.now ≡ row_table 1 }
-    requires v_value { v.now ≡ row_table 2 }
-    requires w_value { w.now ≡ row_table 3 }
-    requires first_bound { first + 15 < 2 ^ 64 }
-    ensures { result ≡ numbers 64 (big_sub_words (λ i. wide_keys_from (halves counter.low counter.high) (first + i)) (bytes_of 4 salt) (bytes_of 64 s)) }
-{
-    let mut r = s;
-    for i in 0..16 {
-        let at = 4 * i;
-        let a = r[at];
-        let b = r[at + 1];
-        let c = r[at + 2];
-        let d = r[at + 3];
-        let through = word_by_tables(t, u, v, w, [a, b, c, d], counter, first + i as u64, salt);
-        r[at] = through[0];
-        r[at + 1] = through[1];
-        r[at + 2] = through[2];
-        r[at + 3] = through[3];
+impl<'a> Run<'a> {
+    fn new(tables: &'a RowTables, counter: Counter, salt: [u8; 16]) -> Self
+        requires { tables.now ≡ row_tables }
+        ensures counter { result.counter ≡ counter }
+        ensures salt { result.salt ≡ numbers 4 salt }
+    {
+        Run {
+            tables,
+            counter,
+            salt: numbers_of_word(salt),
+        }
     }
-    r
+
+    // The word of that number through two AES rounds: the first key is its counter, and the second one the salt.
+    fn word(self, word: [u32; 4], number: u64) -> [u32; 4]
+        ensures { result ≡ numbers 4 (aes_round (aes_round (bytes_of 4 word) (wide_keys_from (halves self.entry.counter.low self.entry.counter.high) number)) (bytes_of 4 self.entry.salt)) }
+    {
+        let at = count_on(self.counter, number);
+        let low = at.low;
+        let high = at.high;
+        let key = [
+            (low % 0x1_0000_0000) as u32,
+            (low / 0x1_0000_0000) as u32,
+            (high % 0x1_0000_0000) as u32,
+            (high / 0x1_0000_0000) as u32,
+        ];
+        let once = aes_round::round_by_tables(self.tables, word, key);
+        aes_round::round_by_tables(self.tables, once, self.salt)
+    }
+
+    // BIG.SubWords (section 3.1), a word after the other where it stands: the word i is that of the number `first` + i.
+    fn sub_numbers(self, s: [u32; 64], first: u64) -> [u32; 64]
+        requires { first + 15 < 2 ^ 64 }
+        ensures { result ≡ numbers 64 (big_sub_words (λ i. wide_keys_from (halves self.entry.counter.low self.entry.counter.high) (first + i)) (bytes_of 4 self.entry.salt) (bytes_of 64 s)) }
+    {
+        let mut r = s;
+        for i in 0..16 {
+            let at = 4 * i;
+            let word = [r[at], r[at + 1], r[at + 2], r[at + 3]];
+            let through = self.word(word, first + i as u64);
+            r[at] = through[0];
+            r[at + 1] = through[1];
+            r[at + 2] = through[2];
+            r[at + 3] = through[3];
+        }
+        r
+    }
 }
 
 // BIG.ShiftRows and BIG.MixColumns (sections 3.2 and 3.3) at once, four byte positions at a time: the word i of a column comes from i columns
@@ -104,14 +99,10 @@ pub(crate) fn run_by_tables(s: &mut [u8], count: u64, counter: Counter, salt: [u
     ensures { s.new ≡ Square·rounds count (wide_keys_from (halves counter.low counter.high)) salt s.old }
 {
     let tables = aes_round::row_tables();
-    let t = tables.row_0;
-    let u = tables.row_1;
-    let v = tables.row_2;
-    let w = tables.row_3;
-    let key = numbers_of_word(salt);
+    let run = Run::new(&tables, counter, salt);
     let mut square = numbers_of_square(s);
     for r in 0..count {
-        let substituted = sub_numbers(&t, &u, &v, &w, square, counter, 16 * r, key);
+        let substituted = run.sub_numbers(square, 16 * r);
         square = shift_and_mix(substituted);
     }
     put_numbers(s, square);

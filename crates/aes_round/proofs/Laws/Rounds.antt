@@ -1,7 +1,7 @@
 -- The steps of a round, the round, and their ways back: ways back undo in both orders, row shift and column mix go through xor, results are
 -- bytes again. Assumes nothing.
-use mathlib.Core.Path.{◌≡◌, refl, sym, ap, ap₂, ◌∙◌}
-use mathlib.Core.List.{List, [], ◌∷◌}
+use mathlib.Core.Path.{◌≡◌, sym, ap, ap₂, ◌∙◌}
+use mathlib.Core.List.{List, []}
 use Prim.Native.Nat.{ℕ, ◌+◌, ◌*◌, ◌/◌, ◌%◌, ◌<◌}
 use native.Mathlib.Nat.{mod-lt}
 use native.Mathlib.Omega.{arith}
@@ -10,15 +10,15 @@ use lib.ListN.{length, get_or}
 use Rattle.aes_round.specs.Bytes.{Bytes, tab, xor_bytes}
 use Rattle.aes_round.specs.Array.{array, column, entry}
 use Rattle.aes_round.specs.Mixing.{backward, forward, mix_column}
-use Rattle.aes_round.specs.Substitution.{Table, sub_byte, sub_byte_back}
+use Rattle.aes_round.specs.Substitution.{sub_byte, sub_byte_back}
 use Rattle.aes_round.specs.Rounds.{add_round_key, aes_round, aes_round_back, mix_columns, shift_back_from, shift_from, shift_rows, shift_rows_back}
 use Rattle.aes_round.specs.Rounds.{sub_bytes, sub_bytes_back}
 use Rattle.aes_round.proofs.Laws.Every.{agree}
 use Rattle.aes_round.proofs.Laws.Bytes.{get_or-tab, is_tab, length-tab, tab_bytes, tab_ext}
 use Rattle.aes_round.proofs.Laws.Xor.{get_or-xor, length-xor, xor_bytes_lem, xor_bytes_twice}
 use Rattle.aes_round.proofs.Laws.Array.{array_bytes, array_ext, column_bytes, column_xor, entry_array, entry_byte, entry_xor, get_or-column}
-use Rattle.aes_round.proofs.Laws.Array.{is_array, length-array, xor_array}
-use Rattle.aes_round.proofs.Laws.Substitution.{sub_back_lt, sub_back_undone, sub_lt, sub_undone, table_at}
+use Rattle.aes_round.proofs.Laws.Array.{is_array, length-array, tab_array, xor_array}
+use Rattle.aes_round.proofs.Laws.Substitution.{sub_back_lt, sub_back_undone, sub_lt, sub_undone}
 use Rattle.aes_round.proofs.Laws.Mixing.{backward_bytes, forward_bytes, length_mix, mix_back_undone, mix_bytes, mix_undone, mix_xor}
 
 -- ---- SubBytes
@@ -212,49 +212,29 @@ round_back_undone s k S K =
 
 -- ---- what the code's steps compute
 
--- bytes looked up in a table that follows the rule f
-looked_up : (f : ℕ → ℕ) (t s : List ℕ) → Table f t → Bytes 16 s → tab 16 (λ k. get_or t (get_or s k 0) 0) ≡ tab 16 (λ k. f (get_or s k 0))
-looked_up f t s rule S = tab_ext 16 _ _ (λ k h. table_at f t rule (get_or s k 0) (S.small k))
-
--- a column of a word from the place i on, and the word of four columns
-abbrev column_from : List ℕ → ℕ → List ℕ
-column_from s i = get_or s i 0 ∷ get_or s (i + 1) 0 ∷ get_or s (i + 2) 0 ∷ get_or s (i + 3) 0 ∷ []
-
-abbrev word_of : List ℕ → List ℕ → List ℕ → List ℕ → List ℕ
-word_of a b c d =
-    get_or a 0 0 ∷ get_or a 1 0 ∷ get_or a 2 0 ∷ get_or a 3 0 ∷ get_or b 0 0 ∷ get_or b 1 0 ∷ get_or b 2 0 ∷ get_or b 3 0
-    ∷ get_or c 0 0 ∷ get_or c 1 0 ∷ get_or c 2 0 ∷ get_or c 3 0 ∷ get_or d 0 0 ∷ get_or d 1 0 ∷ get_or d 2 0 ∷ get_or d 3 0 ∷ []
-
 -- the four columns of a word, mixed one by one
-pub mix_columns_are : (m s w x y z a b c d r : List ℕ) → r ≡ word_of a b c d
-    → a ≡ mix_column m w → w ≡ column_from s 0
-    → b ≡ mix_column m x → x ≡ column_from s 4
-    → c ≡ mix_column m y → y ≡ column_from s 8
-    → d ≡ mix_column m z → z ≡ column_from s 12
-    → r ≡ mix_columns 1 m s
-unfolding mix_columns array column entry tab
-mix_columns_are m s w x y z a b c d r e f f' g g' h h' i i' = rw (e, f, f', g, g', h, h', i, i')
+pub mix_columns_are : (m s : List ℕ) (c : List (List ℕ)) → ((j : ℕ) → j < 4 → get_or c j [] ≡ mix_column m (column 1 s j 0))
+    → tab 16 (λ k. get_or (get_or c (k / 4) []) (k % 4) 0) ≡ mix_columns 1 m s
+unfolding mix_columns
+mix_columns_are m s c e =
+    tab_array 1 _ _
+    (λ k b hk hb.
+    let z : b ≡ 0 = omega arith in
+    let w : 1 * k + b ≡ k = omega arith in
+    rw (w, z) (ap (λ (c : List ℕ). get_or c (k % 4) 0) (e (k / 4) (omega arith))))
 
--- the steps of a round and of the way back, by a table t
-pub round_steps : (t s k a b c d : List ℕ) → d ≡ add_round_key c k → c ≡ mix_columns 1 forward b → b ≡ shift_rows 1 a
-    → a ≡ tab 16 (λ i. get_or t (get_or s i 0) 0) → Table sub_byte t → Bytes 16 s → d ≡ aes_round s k
+-- a column of a word
+pub column_is : (s : List ℕ) (j : ℕ) → tab 4 (λ i. get_or s (4 * j + i) 0) ≡ column 1 s j 0
+unfolding column entry
+column_is s j = tab_ext 4 _ _ (λ i h. let w : 1 * (4 * j + i) + 0 ≡ 4 * j + i = omega arith in ap (λ (k : ℕ). get_or s k 0) (sym w))
+
+-- the steps of a round and of the way back
+pub round_steps : (s k a b c d : List ℕ) → d ≡ add_round_key c k → c ≡ mix_columns 1 forward b → b ≡ shift_rows 1 a
+    → a ≡ tab 16 (λ i. sub_byte (get_or s i 0)) → d ≡ aes_round s k
 unfolding aes_round sub_bytes
-round_steps t s k a b c d e f g h rule S = rw (e, f, g, h, looked_up sub_byte t s rule S)
+round_steps s k a b c d e f g h = rw (e, f, g, h)
 
-pub round_steps_back : (t s k a b c d : List ℕ) → d ≡ tab 16 (λ i. get_or t (get_or c i 0) 0) → c ≡ shift_rows_back 1 b → b ≡ mix_columns 1 backward a
-    → a ≡ add_round_key s k → Table sub_byte_back t → Bytes 16 c → d ≡ aes_round_back s k
+pub round_steps_back : (s k a b c d : List ℕ) → d ≡ tab 16 (λ i. sub_byte_back (get_or c i 0)) → c ≡ shift_rows_back 1 b
+    → b ≡ mix_columns 1 backward a → a ≡ add_round_key s k → d ≡ aes_round_back s k
 unfolding aes_round_back sub_bytes_back
-round_steps_back t s k a b c d e f g h rule S = e ∙ looked_up sub_byte_back t c rule S ∙ rw (f, g, h)
-
--- a round f with two keys, one after the other
-pub twice : (f : List ℕ → List ℕ → List ℕ) (s k l a b : List ℕ) → b ≡ f a l → a ≡ f s k → b ≡ f (f s k) l
-twice f s k l a b e g = e ∙ ap (λ (x : List ℕ). f x l) g
-
--- the place that byte k of a word comes from, in the code's form
-pub shift_word : (s : List ℕ) → tab 16 (λ k. get_or s (5 * k % 16) 0) ≡ shift_rows 1 s
-unfolding shift_rows array entry tab
-shift_word s = refl
-
-pub shift_back_word : (s : List ℕ) → tab 16 (λ k. get_or s (13 * k % 16) 0) ≡ shift_rows_back 1 s
-unfolding shift_rows_back array entry tab
-shift_back_word s = refl
+round_steps_back s k a b c d e f g h = rw (e, f, g, h)

@@ -1,0 +1,6 @@
+-- `round` meets its contract, step by step. Assumes nothing.
+use Rattle.aes_round.proofs.Laws.Rounds.{round_steps}
+use Rattle.aes_round.proofs.rounds.round.Goals as goal
+
+pub returns : goal.returns
+returns c = search round_steps

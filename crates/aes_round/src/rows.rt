@@ -18,7 +18,8 @@ pub struct RowTables {
 }
 
 impl RowTables {
-    // A column, by any four tables: row 0 from the number a, row 1 from b, row 2 from c, row 3 from d.
+    // A column, by any four tables: row 0 from the number a, row 1 from b, row 2 from c, row 3 from d. The four come one by one, since a
+    // digest takes nearly twice as long where they come as an array, which is kept in memory.
     #[tactic(auto, using(crate::proofs::Laws::ByTables::column_is))]
     pub(crate) fn column(&self, a: u32, b: u32, c: u32, d: u32) -> u32
         ensures { result ≡ table_column self.now.row_0 self.now.row_1 self.now.row_2 self.now.row_3 a b c d }

@@ -1,9 +1,10 @@
 -- `mix_by` meets its contract, row by row. Assumes nothing.
-use Rattle.std.proofs.Common.{rules}
+use Rattle.std.proofs.Common.{sym}
+use Rattle.aes_round.specs.Bytes.{tab}
 use Rattle.aes_round.specs.Mixing.{mix_column}
-use Rattle.aes_round.proofs.Laws.Made.{made}
+use Rattle.aes_round.proofs.Laws.Mixing.{four}
 use Rattle.aes_round.proofs.mixing.mix_by.Goals as goal
 
 pub returns : goal.returns
-unfolding mix_column
-returns g c = made _ 4 _ _ (λ i y f' l call. search rules) _ c.from_fn.ensures.items
+unfolding mix_column tab
+returns g c = let e = c.coefficients-m.ensures in rw (sym e) (search four)

@@ -24,7 +24,7 @@ fn is_too_high(given: Record) -> bool
     matches!(given, Record::Node(node) if 0x1_0000_0000_0000 <= node.address)
 }
 
-// Puts the four numbers of a note into the room, from a place on.
+// Puts the four numbers of a note into the room, from a place on. Four fields with a name each, so four calls: there is no list to go over.
 fn put_note(room: &mut [u8], at: usize, note: Note)
     requires { at + 32 ≤ length room.old }
     ensures { room.new ≡ sets room.old at (body_of (Record.Note note)) }

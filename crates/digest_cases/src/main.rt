@@ -5,7 +5,7 @@
 // once), the salt's length, the mode (0 double-pipe, 1 single-pipe), 0 or 1 + the bits of the last byte that don't count, six zeros and sixteen salt
 // bytes. Numbers have their least significant byte first. The message's byte i is seed + 29 i + 101 (i / 256), modulo 256. With pieces the digest is
 // read after each piece, too: reading changes nothing. Where bits are told that don't count, those are zero, and the routines for bits are called.
-ghost use Rattle.std.specs.Prelude.{◌≤◌, ◌+◌, ◌*◌, ◌<◌, ◌≡◌, length};
+ghost use Rattle.std.specs.Prelude.{◌≤◌, ◌+◌, ◌*◌, ◌<◌, length};
 
 use cases_in::{fill, mode_of};
 use echo::{Mode, Session};

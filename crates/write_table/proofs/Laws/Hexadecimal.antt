@@ -97,9 +97,6 @@ module _ (text : List ℕ) (i : ℕ) (so_far : is_hex text ≡ is_hex (drop (2 *
 pub start : (text all room : List ℕ) (from : ℕ) → all ≡ sets room from (pairs_of text) → all ≡ sets room (from + 0) (pairs_of (drop (2 * 0) text))
 start text all room from q = q ∙ ap (λ (k : ℕ). sets room k (pairs_of text)) (omega arith)
 
-pub not_good : {A : Type 0} → false ≡ true → A
-not_good e = absurd (true≢false (sym e))
-
 -- ---- two digits in front
 
 module _ (a b : List ℕ) where

@@ -229,9 +229,6 @@ either_way true false = refl
 either_way false true = refl
 either_way false false = refl
 
-pub text_starts : (more : Bool) (text room : List ℕ) → text_of more text ≡ text_from more (take (0 - 0) (drop 0 text)) 0 (take 0 room) (drop 0 text)
-text_starts more text room = refl
-
 -- before byte i, behind a line that began at `from`, count records and their bytes
 module _ (more : Bool) (text : List ℕ) (i from count : ℕ) (bytes : List ℕ)
     (so_far : text_of more text ≡ text_from more (take (i - from) (drop from text)) count bytes (drop i text)) (n : ℕ) (l : n ≡ length text) where

@@ -158,7 +158,8 @@ impl TagSession {
         if !self.is_session() {
             return Err(self.refused(Refusal::NoSession));
         }
-        match self.closed().read(out) {
+        let closed = self.closed();
+        match closed.read(out) {
             Ok(_) => Ok(self),
             Err(refused) => Err(self.refused(refused.refusal)),
         }

@@ -12,7 +12,7 @@ returns-then-not-is_session-clause-left c = search left_none
 
 pub returns-in-Ok-clause-answer : goal.returns-in-Ok-clause-answer
 returns-in-Ok-clause-answer c =
-    read_closed _ _ c.is_session.ensures (ap not c.if-not-is_session.false) _ c.closed.ensures _ (answer_of (Ok c.in-Ok.field-0)) c.in-Ok.ensures.answer
+    read_closed _ _ c.is_session.ensures (ap not c.if-not-is_session.false) _ c.closed-closed.ensures _ (answer_of (Ok c.in-Ok.field-0)) c.in-Ok.ensures.answer
 
 pub returns-in-Ok-clause-left : goal.returns-in-Ok-clause-left
 returns-in-Ok-clause-left c = search left_closed
@@ -20,7 +20,7 @@ returns-in-Ok-clause-left c = search left_closed
 pub returns-in-Err-clause-answer : goal.returns-in-Err-clause-answer
 returns-in-Err-clause-answer c =
     rw c.refused-in-Err.ensures
-    (read_closed _ _ c.is_session.ensures (ap not c.if-not-is_session.false) _ c.closed.ensures _ (answer_of (Err c.in-Err.refused))
+    (read_closed _ _ c.is_session.ensures (ap not c.if-not-is_session.false) _ c.closed-closed.ensures _ (answer_of (Err c.in-Err.refused))
     c.in-Err.ensures.answer)
 
 pub returns-in-Err-clause-left : goal.returns-in-Err-clause-left

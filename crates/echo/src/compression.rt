@@ -42,7 +42,6 @@ fn fold_in(v: &mut [u8], src: &[u8])
 fn compress_wide_in(chaining: &mut [u8], block: &[u8], count: u64, counter: Counter, salt: [u8; 16])
     requires chaining_nonzero { 0 < length chaining.old }
     requires block_len { length chaining.old + length block.now ≡ 256 }
-    requires value { 256 ≡ length chaining.old * (256 / length chaining.old) }
     requires count_bound { 16 * count ≤ 2 ^ 64 }
     ensures { chaining.new ≡ Compression·compress (length chaining.old) count (wide_keys_from (halves counter.low counter.high)) salt chaining.old block.now }
 {
@@ -65,7 +64,6 @@ pub(crate) fn compress_in(
 )
     requires chaining_nonzero { 0 < length chaining.old }
     requires block_len { length chaining.old + length block.now ≡ 256 }
-    requires value { 256 ≡ length chaining.old * (256 / length chaining.old) }
     requires count_bound { counter + 16 * count ≤ 2 ^ 64 }
     ensures { chaining.new ≡ Compression·compress (length chaining.old) count (keys_from counter) salt chaining.old block.now }
 {

@@ -12,22 +12,10 @@ fn number_at(s: &[u8], at: usize) -> u32
     u32::from_le_bytes([s[at], s[at + 1], s[at + 2], s[at + 3]])
 }
 
-// A word of sixteen bytes as four numbers.
-pub(crate) fn numbers_of_word(w: [u8; 16]) -> [u32; 4]
-    ensures { result ≡ numbers 4 w }
-{
-    [
-        number_at(&w, 0),
-        number_at(&w, 4),
-        number_at(&w, 8),
-        number_at(&w, 12),
-    ]
-}
-
-// The square as 64 numbers: four for each word.
-pub(crate) fn numbers_of_square(s: &[u8]) -> [u32; 64]
-    requires { length s.now ≡ 256 }
-    ensures { result ≡ numbers 64 s.now }
+// The bytes as N numbers, four for each word.
+pub(crate) fn numbers_of<const N: usize>(s: &[u8]) -> [u32; N]
+    requires { length s.now ≡ 4 * N }
+    ensures { result ≡ numbers N s.now }
 {
     std::array::from_fn(|k| number_at(s, 4 * k))
 }

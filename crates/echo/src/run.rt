@@ -31,12 +31,10 @@ fn run_back(s: &mut [u8], count: u64, counter: Counter, salt: [u8; 16])
     requires count_bound { 16 * count ≤ 2 ^ 64 }
     ensures { s.new ≡ Square·roundsBack count (wide_keys_from (halves counter.low counter.high)) salt s.old }
 {
-    let mut left = count;
-    while 0 < left {
-        left -= 1;
+    for r in (0..count).rev() {
         mix_columns_back(s);
         shift_rows_back(s);
-        sub_words_back(s, counter, 16 * left, salt);
+        sub_words_back(s, counter, 16 * r, salt);
     }
 }
 

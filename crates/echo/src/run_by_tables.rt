@@ -8,7 +8,7 @@ ghost use Rattle.echo.specs.Square.{big_mix_columns, big_shift_rows, big_sub_wor
 ghost use Rattle.echo.specs.Square.{rounds as Square·rounds};
 
 use super::counter::{Counter, count_on};
-use super::numbers::{numbers_of_square, numbers_of_word, put_numbers};
+use super::numbers::{numbers_of, put_numbers};
 use aes_round::RowTables;
 
 // What the rounds of a run share: the tables, the counter that the run starts from, and the salt, which is the key of each second AES round.
@@ -29,7 +29,7 @@ impl<'a> Run<'a> {
         Run {
             tables,
             counter,
-            salt: numbers_of_word(salt),
+            salt: numbers_of(&salt),
         }
     }
 
@@ -100,7 +100,7 @@ pub(crate) fn run_by_tables(s: &mut [u8], count: u64, counter: Counter, salt: [u
 {
     let tables = aes_round::row_tables();
     let run = Run::new(&tables, counter, salt);
-    let mut square = numbers_of_square(s);
+    let mut square = numbers_of(s);
     for r in 0..count {
         let substituted = run.sub_numbers(square, 16 * r);
         square = shift_and_mix(substituted);

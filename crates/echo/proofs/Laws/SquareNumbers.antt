@@ -30,12 +30,12 @@ word_numbers w a b c d ea eb ec ed = rw (ea, eb, ec, ed) (four_numbers w)
 abbrev pub number_of : List ℕ → ℕ → ℕ
 number_of s k = number (λ p. get_or s (4 * k + p) 0)
 
-pub numbers_made : (s : List ℕ) → tab 64 (number_of s) ≡ numbers 64 s
+pub numbers_made : (n : ℕ) (s : List ℕ) → tab n (number_of s) ≡ numbers n s
 unfolding numbers
-numbers_made s = refl
+numbers_made n s = refl
 
 pub square_numbers : (s l r : List ℕ) (k : ℕ) → Filled 64 (number_of s) l k r → 64 ≤ k → r ≡ numbers 64 s
-square_numbers s l r k F h = fill_all 64 (number_of s) l k r F h ∙ numbers_made s
+square_numbers s l r k F h = fill_all 64 (number_of s) l k r F h ∙ numbers_made 64 s
 
 -- ---- numbers as bytes
 

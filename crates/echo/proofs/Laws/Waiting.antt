@@ -1,5 +1,5 @@
 -- The waiting block of a session: where its next byte stands, a byte and a piece more, and the block compressed. Assumes nothing.
-use Rattle.std.proofs.Common.{◌≡◌, ℕ, zero, suc, ◌+◌, ◌*◌, ◌/◌, ◌%◌, ◌^◌, ◌<◌, ◌≤◌, Bool, true, false, List, [], ◌∷◌, ◌++◌, length, get_or, take, drop, set, replicate, sym, refl, ap, ◌∙◌, subst, ap₂, add-zero, mod-lt, add-one, arith, drop_of_length-le, length-take-le, drop-cons, eq-eqb, ne_eqb, eqb}
+use Rattle.std.proofs.Common.{◌≡◌, ℕ, zero, suc, ◌+◌, ◌*◌, ◌/◌, ◌%◌, ◌^◌, ◌<◌, ◌≤◌, Bool, true, false, List, [], ◌∷◌, ◌++◌, length, get_or, take, drop, set, replicate, sym, refl, ap, ◌∙◌, ap₂, add-zero, mod-lt, add-one, arith, drop_of_length-le, length-take-le, drop-cons, eq-eqb, ne_eqb, eqb}
 use Rattle.echo.specs.declared.mode.Mode.{Mode}
 use Rattle.echo.specs.declared.session.Session.{Session}
 use Rattle.echo.specs.Compression.{compress}
@@ -151,9 +151,6 @@ module _ (mode : Mode) (bits c : ℕ) (p : c ≡ chaining_size mode bits) where
 
     pub lent_some : 0 < length (take c v)
     lent_some = let S = sizes mode bits in omega (arith, lent_chaining)
-
-    pub lent_parts : 256 ≡ length (take c v) * (256 / length (take c v))
-    lent_parts = subst (λ (x : ℕ). 256 ≡ x * (256 / x)) (sym p ∙ lent_chaining) (sizes mode bits).parts
 
     module _ (b : ℕ) (q : b ≡ block_size mode bits) (w : List ℕ) (lw : length w ≡ 224) where
       pub lent_block : b ≡ length (take b w)

@@ -1,6 +1,6 @@
 -- `compress_wide` meets its contract: a refusal leaves the chaining variable, and else the work is `compress_wide_in`'s. Assumes nothing.
 use Rattle.echo.specs.Routines.{compress_wide_leaves}
-use Rattle.echo.proofs.Laws.Refusals.{compress_done, compress_parts, compress_salt, compress_some, compress_square, compress_words}
+use Rattle.echo.proofs.Laws.Refusals.{compress_done, compress_salt, compress_some, compress_square, compress_words}
 use Rattle.echo.proofs.Laws.Refusals.{refused}
 use Rattle.echo.proofs.compression.compress_wide.Goals as goal
 
@@ -16,9 +16,6 @@ compress_wide_in-requires-clause-chaining_nonzero c = search (compress_some, c.i
 
 pub compress_wide_in-requires-clause-block_len : goal.compress_wide_in-requires-clause-block_len
 compress_wide_in-requires-clause-block_len c = search (compress_square, c.in_ok-check_compress_wide.ensures)
-
-pub compress_wide_in-requires-clause-value : goal.compress_wide_in-requires-clause-value
-compress_wide_in-requires-clause-value c = search (compress_parts, c.in_ok-check_compress_wide.ensures)
 
 pub compress_wide_in-requires-clause-count_bound : goal.compress_wide_in-requires-clause-count_bound
 compress_wide_in-requires-clause-count_bound c = search (compress_words, c.in_ok-check_compress_wide.ensures)

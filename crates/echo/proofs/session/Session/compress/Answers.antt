@@ -1,5 +1,5 @@
 -- `compress` meets its contract: the parts that are lent have the sizes of mode and digest length. Assumes nothing.
-use Rattle.echo.proofs.Laws.Waiting.{block_within, compress_made, lent_chaining, lent_parts, lent_some, lent_square, lent_within}
+use Rattle.echo.proofs.Laws.Waiting.{block_within, compress_made, lent_chaining, lent_some, lent_square, lent_within}
 use Rattle.echo.proofs.session.Session.compress.Goals as goal
 
 pub slice_bounds-v-end : goal.slice_bounds-v-end
@@ -16,9 +16,6 @@ compress_in-requires-clause-chaining_nonzero c = search lent_some
 
 pub compress_in-requires-clause-block_len : goal.compress_in-requires-clause-block_len
 compress_in-requires-clause-block_len c = search lent_square
-
-pub compress_in-requires-clause-value : goal.compress_in-requires-clause-value
-compress_in-requires-clause-value c = search lent_parts
 
 pub returns : goal.returns
 returns c = search compress_made

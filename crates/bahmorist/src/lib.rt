@@ -2,6 +2,8 @@
 // The library as C and Rust see it: include/bahmorist.h declares these functions. A slice is a pointer and a length there. Each but the last answers as
 // the routine of a layer below that it calls, and so its contract is that routine's; those that end in `_in`, `bahmorist_digest_bits` and
 // `bahmorist_compress_wide` take a mode as a number, and refuse a number that is no mode's by 6. Those that end in `_wide` take a counter of 128 bits by its halves.
+mod answers;
+mod in_modes;
 mod modes;
 
 ghost use Rattle.std.specs.Prelude.{◌≡◌, length};
@@ -19,8 +21,9 @@ ghost use Rattle.bahmorist.specs.Answers.{number_of, version_number};
 ghost use Rattle.bahmorist.specs.Tables.{kind_read, next_read};
 ghost use Rattle.bahmorist.specs.Modes.{compress_in_leaves, compress_in_refusal, compress_wide_in_leaves, compress_wide_in_refusal, digest_bits_in_leaves, digest_bits_in_refusal, digest_in_leaves, digest_in_refusal};
 
+use answers::number;
 use echo::Mode;
-use modes::{mode_of, no_mode};
+use in_modes::{compress_in, compress_wide_in, digest_bits_in, digest_in};
 
 // The digest of a message at the front of `out`, and 0; or a refusal by 1, 2, 4 or 5.
 #[unsafe(no_mangle)]
@@ -28,7 +31,7 @@ pub extern "C" fn bahmorist_digest(bits: u64, salt: &[u8], message: &[u8], out: 
     ensures refusal { result ≡ digest_refusal bits (length salt.now) (length message.now) (length out.old) }
     ensures left { out.new ≡ digest_leaves DoublePipe bits salt.now message.now out.old }
 {
-    echo::digest(Mode::DoublePipe, bits, salt, message, out)
+    number(echo::digest(Mode::DoublePipe, bits, salt, message, out))
 }
 
 // The same in the mode of a number, and 0; or a refusal by 1, 2, 4, 5 or 6.
@@ -43,11 +46,7 @@ pub extern "C" fn bahmorist_digest_in(
     ensures refusal { result ≡ digest_in_refusal mode bits (length salt.now) (length message.now) (length out.old) }
     ensures left { out.new ≡ digest_in_leaves mode bits salt.now message.now out.old }
 {
-    if no_mode(mode) {
-        let refusal = echo::digest_refusal(bits, salt.len(), message.len(), out.len());
-        return if refusal == 0 { 6 } else { refusal };
-    }
-    echo::digest(mode_of(mode), bits, salt, message, out)
+    number(digest_in(mode, bits, salt, message, out))
 }
 
 // The same of the first so many bits of a message, and 0; or a refusal by 1, 2, 4, 5, 6 or 17.
@@ -63,12 +62,7 @@ pub extern "C" fn bahmorist_digest_bits(
     ensures refusal { result ≡ digest_bits_in_refusal mode bits (length salt.now) message.now count (length out.old) }
     ensures left { out.new ≡ digest_bits_in_leaves mode bits salt.now message.now count out.old }
 {
-    if no_mode(mode) {
-        let whole = (count / 8) as usize;
-        let refusal = echo::digest_refusal(bits, salt.len(), whole, out.len());
-        return if refusal != 0 { refusal } else { 6 };
-    }
-    echo::digest_bits(mode_of(mode), bits, salt, message, count, out)
+    number(digest_bits_in(mode, bits, salt, message, count, out))
 }
 
 // The square after 8 or 10 rounds that count on from `counter`, and 0; or a refusal by 2, 6 or 7.
@@ -77,7 +71,7 @@ pub extern "C" fn bahmorist_rounds(square: &mut [u8], rounds: u64, counter: u64,
     ensures refusal { result ≡ rounds_refusal (length square.old) rounds counter (length salt.now) }
     ensures left { square.new ≡ rounds_leave square.old rounds counter salt.now }
 {
-    echo::rounds(square, rounds, counter, salt)
+    number(echo::rounds(square, rounds, counter, salt))
 }
 
 // The square that those rounds took to this one, and 0; or a refusal by 2, 6 or 7.
@@ -91,7 +85,7 @@ pub extern "C" fn bahmorist_rounds_back(
     ensures refusal { result ≡ rounds_refusal (length square.old) rounds counter (length salt.now) }
     ensures left { square.new ≡ rounds_back_leave square.old rounds counter salt.now }
 {
-    echo::rounds_back(square, rounds, counter, salt)
+    number(echo::rounds_back(square, rounds, counter, salt))
 }
 
 // The square after 8 or 10 rounds that count on from the counter of these halves, modulo 2^128, and 0; or a refusal by 2 or 6.
@@ -106,7 +100,7 @@ pub extern "C" fn bahmorist_rounds_wide(
     ensures refusal { result ≡ rounds_wide_refusal (length square.old) rounds (length salt.now) }
     ensures left { square.new ≡ rounds_wide_leave square.old rounds (halves low high) salt.now }
 {
-    echo::rounds_wide(square, rounds, low, high, salt)
+    number(echo::rounds_wide(square, rounds, low, high, salt))
 }
 
 // The square that those rounds took to this one, and 0; or a refusal by 2 or 6.
@@ -121,7 +115,7 @@ pub extern "C" fn bahmorist_rounds_back_wide(
     ensures refusal { result ≡ rounds_wide_refusal (length square.old) rounds (length salt.now) }
     ensures left { square.new ≡ rounds_back_wide_leave square.old rounds (halves low high) salt.now }
 {
-    echo::rounds_back_wide(square, rounds, low, high, salt)
+    number(echo::rounds_back_wide(square, rounds, low, high, salt))
 }
 
 // The next chaining value in the place of this one, and 0; or a refusal by 2, 6 or 7.
@@ -135,7 +129,7 @@ pub extern "C" fn bahmorist_compress(
     ensures refusal { result ≡ compress_refusal DoublePipe (length chaining.old) (length block.now) counter (length salt.now) }
     ensures left { chaining.new ≡ compress_leaves DoublePipe chaining.old block.now counter salt.now }
 {
-    echo::compress(Mode::DoublePipe, chaining, block, counter, salt)
+    number(echo::compress(Mode::DoublePipe, chaining, block, counter, salt))
 }
 
 // The same in the mode of a number, and 0; or a refusal by 2, 6 or 7.
@@ -150,10 +144,7 @@ pub extern "C" fn bahmorist_compress_in(
     ensures refusal { result ≡ compress_in_refusal mode (length chaining.old) (length block.now) counter (length salt.now) }
     ensures left { chaining.new ≡ compress_in_leaves mode chaining.old block.now counter salt.now }
 {
-    if no_mode(mode) {
-        return if salt.len() == 16 { 6 } else { 2 };
-    }
-    echo::compress(mode_of(mode), chaining, block, counter, salt)
+    number(compress_in(mode, chaining, block, counter, salt))
 }
 
 // The same from the counter of these halves, which counts on modulo 2^128, and 0; or a refusal by 2 or 6.
@@ -169,10 +160,7 @@ pub extern "C" fn bahmorist_compress_wide(
     ensures refusal { result ≡ compress_wide_in_refusal mode (length chaining.old) (length block.now) (length salt.now) }
     ensures left { chaining.new ≡ compress_wide_in_leaves mode chaining.old block.now (halves low high) salt.now }
 {
-    if no_mode(mode) {
-        return if salt.len() != 16 { 2 } else { 6 };
-    }
-    echo::compress_wide(mode_of(mode), chaining, block, low, high, salt)
+    number(compress_wide_in(mode, chaining, block, low, high, salt))
 }
 
 // The fingerprint of a table at the front of `out`, and 0; or a refusal by 2, 5, 8, 9 or 10. `place` is written on every call: the place of
@@ -287,7 +275,7 @@ pub extern "C" fn bahmorist_hmac(
     ensures refusal { result ≡ make_refusal bits (length salt.now) (length key.now) (length message.now) (length out.old) }
     ensures left { out.new ≡ make_leaves bits salt.now key.now message.now out.old }
 {
-    hmac::make_tag(bits, salt, key, message, out)
+    number(hmac::make_tag(bits, salt, key, message, out))
 }
 
 // 0 where a tag is that of a message under a key, and there alone; or a refusal by 1, 2 or 4, or by 19 for any other tag.
@@ -301,7 +289,7 @@ pub extern "C" fn bahmorist_hmac_verify(
 ) -> u8
     ensures { result ≡ verify_refusal bits salt.now key.now message.now tag.now }
 {
-    hmac::verify_tag(bits, salt, key, message, tag)
+    number(hmac::verify_tag(bits, salt, key, message, tag))
 }
 
 // Whether a tag is that of a message under a key, and 0; or a refusal by 1, 2 or 4. `yes` is written on every call: 1 for yes, and 0 for no
@@ -318,9 +306,16 @@ pub extern "C" fn bahmorist_hmac_check(
     ensures refusal { result ≡ (check_answer bits salt.now key.now message.now tag.now).refusal }
     ensures yes { yes.new ≡ number_of (check_answer bits salt.now key.now message.now tag.now).yes }
 {
-    let verdict = hmac::check_tag(bits, salt, key, message, tag);
-    *yes = number_of(verdict.yes);
-    verdict.refusal
+    match hmac::check_tag(bits, salt, key, message, tag) {
+        Ok(right) => {
+            *yes = u8::from(right);
+            0
+        }
+        Err(refusal) => {
+            *yes = 0;
+            refusal.number()
+        }
+    }
 }
 
 // 1 where two strings of bytes are the same, and else 0.
@@ -328,7 +323,7 @@ pub extern "C" fn bahmorist_hmac_check(
 pub extern "C" fn bahmorist_same(a: &[u8], b: &[u8]) -> u8
     ensures { result ≡ number_of (same a.now b.now) }
 {
-    number_of(hmac::same(a, b))
+    u8::from(hmac::same(a, b))
 }
 
 // The version of the library as one number.
@@ -337,10 +332,4 @@ pub extern "C" fn bahmorist_version() -> u32
     ensures { result ≡ version_number }
 {
     800
-}
-
-fn number_of(says: bool) -> u8
-    ensures { result ≡ number_of says }
-{
-    if says { 1 } else { 0 }
 }

@@ -1,10 +1,9 @@
 -- Modes as numbers: what the routines that take one answer and leave, by the tests that the code made. Assumes nothing.
 use mathlib.Core.Path.{◌≡◌, refl, sym, ap, ◌∙◌}
-use mathlib.Core.Bool.{Bool, true, false, not, ◌||◌}
+use mathlib.Core.Bool.{Bool, true, false, cond, not, ◌||◌}
 use mathlib.Core.List.{List, [], ◌∷◌}
 use Prim.Native.Nat.{ℕ, zero, suc, ◌/◌}
 use native.Mathlib.Omega.{arith}
-use borrow.Author.Tests.{eq-eqb, ne_eqb}
 use lib.Dec.{eqb, ltb}
 use lib.ListN.{length}
 use Rattle.echo.specs.declared.mode.Mode.{Mode}
@@ -24,15 +23,6 @@ use Rattle.bahmorist.specs.Modes.{digest_bits_in_leaves, digest_bits_in_refusal,
 
 pub none_0 : (n : ℕ) → n ≡ 0 → false ≡ no_mode n
 none_0 n e = rw e
-
-pub none_1 : (n : ℕ) → (n ≡ 0 → ⊥) → not (eqb n 1) ≡ no_mode n
-none_1 n z = rw (ne_eqb n 0 z)
-
-pub mode_1 : (n : ℕ) → n ≡ 1 → SinglePipe ≡ mode_of n
-mode_1 n e = rw e
-
-pub mode_0 : (n : ℕ) → (n ≡ 1 → ⊥) → DoublePipe ≡ mode_of n
-mode_0 n e = rw (ne_eqb n 1 e)
 
 pub is_number : (mode : Mode) → (false ≡ no_mode (mode_number mode)) × (mode ≡ mode_of (mode_number mode))
 is_number DoublePipe = (refl, refl)
@@ -216,11 +206,12 @@ module _ (n : ℕ) (chaining block salt : List ℕ) (rest : List Refusal) where
         by true p = omega arith
         by false p = omega arith
 
-    number_2 : (length salt ≡ 16 → ⊥) → 2 ≡ first (no_mode n)
-    number_2 l = rw (ne_eqb (length salt) 16 l)
-
-    number_6 : t ≡ true → length salt ≡ 16 → 6 ≡ first (no_mode n)
-    number_6 none l = rw (eq-eqb (length salt) 16 l, ← e, none)
+    number_none : t ≡ true → cond (no_salt (length salt)) 2 6 ≡ first (no_mode n)
+    number_none none = by (eqb (length salt) 16) ∙ sym (same true none)
+      where
+        by : (s : Bool) → cond (not s) 2 6 ≡ first_of ((2 when not s) ∷ (6 when true) ∷ rest)
+        by true = refl
+        by false = refl
 
     keeps : t ≡ true → (done : List ℕ) → chaining ≡ unless (first (no_mode n)) done chaining
     keeps none done = by (eqb (length salt) 16) ∙ ap (λ (k : ℕ). unless k done chaining) (sym (same true none))
@@ -254,13 +245,9 @@ module _ (n : ℕ) (chaining block : List ℕ) (counter : ℕ) (salt : List ℕ)
   compress_refuses = refuses n chaining block salt high t e
 
   module _ (none : t ≡ true) where
-    pub compress_no_mode_2 : (length salt ≡ 16 → ⊥) → 2 ≡ refusal_in
+    pub compress_no_mode : (r : ℕ) → r ≡ cond (no_salt (length salt)) 2 6 → r ≡ refusal_in
     unfolding compress_in_refusal
-    compress_no_mode_2 = number_2 n chaining block salt high t e
-
-    pub compress_no_mode_6 : length salt ≡ 16 → 6 ≡ refusal_in
-    unfolding compress_in_refusal
-    compress_no_mode_6 = number_6 n chaining block salt high t e none
+    compress_no_mode r d = d ∙ number_none n chaining block salt high t e none
 
     pub no_mode_keeps : chaining ≡ compress_in_leaves n chaining block counter salt
     unfolding compress_in_leaves compress_in_refusal
@@ -294,13 +281,9 @@ module _ (n : ℕ) (chaining block : List ℕ) (counter : ℕ) (salt : List ℕ)
   wide_refuses = refuses n chaining block salt [] t e
 
   module _ (none : t ≡ true) where
-    pub wide_no_mode_2 : (length salt ≡ 16 → ⊥) → 2 ≡ wide_refusal_in
+    pub wide_no_mode : (r : ℕ) → r ≡ cond (no_salt (length salt)) 2 6 → r ≡ wide_refusal_in
     unfolding compress_wide_in_refusal
-    wide_no_mode_2 = number_2 n chaining block salt [] t e
-
-    pub wide_no_mode_6 : length salt ≡ 16 → 6 ≡ wide_refusal_in
-    unfolding compress_wide_in_refusal
-    wide_no_mode_6 = number_6 n chaining block salt [] t e none
+    wide_no_mode r d = d ∙ number_none n chaining block salt [] t e none
 
     pub wide_no_mode_keeps : chaining ≡ compress_wide_in_leaves n chaining block counter salt
     unfolding compress_wide_in_leaves compress_wide_in_refusal

@@ -1,13 +1,12 @@
 // A line of a list: the file that it names, held against the digest that it has.
-ghost use Rattle.std.specs.Prelude.{◌≤◌, length};
-
+use super::help::PROGRAM;
 use super::listed::{Listed, listed_in};
 use super::names::put_unescaped;
 use super::options::{Options, Printed};
-use super::printing::{Unwritten, print};
-use super::summing::{NoDigest, digest_named, is_dash};
+use super::summing::{NoDigest, digest_named};
+use command::Failed;
 use echo::Session;
-use lines::{put, put_named};
+use lines::Line;
 
 // What came of the lines of a list so far.
 #[derive(Clone, Copy)]
@@ -44,14 +43,14 @@ impl Tally {
         rt: &HostRuntime,
         line: &[u8],
         options: &Options,
-    ) -> Result<(), Unwritten> {
+    ) -> Result<(), Failed> {
         let Some(listed) = listed_in(line, &options.terms()) else {
             self.count_improper();
             return Ok(());
         };
-        let mut name = [0u8; 8448];
-        let n = put_listed(&mut name, &line[listed.from..listed.to], listed.is_escaped);
-        self.take_file(rt, &name[..n], listed, options)
+        let mut name = Line::<8448>::new();
+        put_listed(&mut name, &line[listed.from..listed.to], listed.is_escaped);
+        self.take_file(rt, name.bytes(), listed, options)
     }
 
     fn take_file(
@@ -60,13 +59,17 @@ impl Tally {
         name: &[u8],
         listed: Listed,
         options: &Options,
-    ) -> Result<(), Unwritten> {
-        if self.is_input && is_dash(name) {
+    ) -> Result<(), Failed> {
+        if self.is_input && matches!(name, b"-") {
             self.count_improper();
             return Ok(());
         }
+        // The bits of a line are those of a digest, so that no session is refused here.
+        let Ok(session) = Session::open(listed.mode, listed.bits, &listed.salt) else {
+            self.count_improper();
+            return Ok(());
+        };
         self.has_proper = true;
-        let session = Session::open(listed.mode, listed.bits, &listed.salt).session;
         match digest_named(rt, session, name, options.passes_missing) {
             Ok(digest) if digest == listed.digest => {
                 self.has_match = true;
@@ -97,13 +100,12 @@ impl Tally {
 }
 
 // The name that a line has, as it is or with its escapes undone.
-fn put_listed(room: &mut [u8], text: &[u8], is_escaped: bool) -> usize
-    ensures { result ≤ length room.new }
-{
+fn put_listed<const N: usize>(name: &mut Line<N>, text: &[u8], is_escaped: bool) {
     if is_escaped {
-        return put_unescaped(room, text);
+        put_unescaped(name, text);
+    } else {
+        name.text(text);
     }
-    put(room, 0, text)
 }
 
 fn print_failure(
@@ -111,27 +113,21 @@ fn print_failure(
     name: &[u8],
     what: &[u8],
     options: &Options,
-) -> Result<(), Unwritten> {
+) -> Result<(), Failed> {
     match options.printed {
         Printed::None => Ok(()),
         _ => print_result(rt, name, what),
     }
 }
 
-// Prints what came of a file. A name is escaped where it has a line end, as `sha256sum -c` does, and else printed as it is. A room holds a name
+// Prints what came of a file. A name is escaped where it has a line end, as `sha256sum -c` does, and else printed as it is. A line holds a name
 // as long as a line of a list, each byte of it escaped, and what stands behind it.
-fn print_result(rt: &HostRuntime, name: &[u8], what: &[u8]) -> Result<(), Unwritten> {
-    let mut line = [0u8; 17152];
-    let end = put_result(&mut line, name, what);
-    print(rt, &line[..end])
-}
-
-fn put_result(room: &mut [u8], name: &[u8], what: &[u8]) -> usize
-    ensures { result ≤ length room.new }
-{
+fn print_result(rt: &HostRuntime, name: &[u8], what: &[u8]) -> Result<(), Failed> {
+    let mut line = Line::<17152>::new();
     if name.contains(&b'\n') {
-        return put_named(room, 0, b"", name, what);
+        line.named(b"", name, what);
+    } else {
+        line.text(name).text(what);
     }
-    let named = put(room, 0, name);
-    put(room, named, what)
+    PROGRAM.print(rt, line.bytes())
 }

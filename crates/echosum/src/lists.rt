@@ -1,11 +1,11 @@
 // Lists of digests, read line by line and checked.
 use super::checking::Tally;
+use super::help::PROGRAM;
 use super::options::{Options, Printed};
-use super::printing::Unwritten;
 use super::saying::{
-    say_endless, say_improper, say_mismatched, say_no_lines, say_none_verified, say_unread, say_why,
+    say_endless, say_improper, say_mismatched, say_no_lines, say_none_verified, say_unread,
 };
-use super::summing::is_dash;
+use command::Failed;
 use host::Source;
 
 // A line that goes on for longer ends the reading, since it may never end.
@@ -18,8 +18,8 @@ enum Stopped {
     Unwritten,
 }
 
-impl From<Unwritten> for Stopped {
-    fn from(_unwritten: Unwritten) -> Stopped {
+impl From<Failed> for Stopped {
+    fn from(_unwritten: Failed) -> Stopped {
         Stopped::Unwritten
     }
 }
@@ -41,7 +41,7 @@ fn take_line(
     length: usize,
     tally: &mut Tally,
     options: &Options,
-) -> Result<(), Unwritten> {
+) -> Result<(), Failed> {
     if length == 0 || line.starts_with(b"#") {
         return Ok(());
     }
@@ -66,7 +66,7 @@ impl Reading {
     }
 
     // The line at hand is whole.
-    fn end_line(&mut self, rt: &HostRuntime, options: &Options) -> Result<(), Unwritten> {
+    fn end_line(&mut self, rt: &HostRuntime, options: &Options) -> Result<(), Failed> {
         let length = self.length;
         self.length = 0;
         take_line(rt, &self.line, length, &mut self.tally, options)
@@ -107,7 +107,7 @@ impl Reading {
         let n = match host::read(from, &mut room) {
             Ok(n) => n,
             Err(error) => {
-                say_why(rt, list, error);
+                PROGRAM.say_why(rt, list, error);
                 return Err(Stopped::Unread);
             }
         };
@@ -160,34 +160,25 @@ fn check_all(
     list: &[u8],
     is_input: bool,
     options: &Options,
-) -> Result<bool, Unwritten> {
+) -> Result<bool, Failed> {
     match read_all(rt, from, list, is_input, options) {
         Ok(tally) => Ok(conclude(rt, &tally, list, options)),
         Err(Stopped::Unread) => Ok(false),
-        Err(Stopped::Unwritten) => Err(Unwritten),
+        Err(Stopped::Unwritten) => Err(Failed),
     }
 }
 
 // Checks the lines of a list, and answers whether all is well. A dash is standard input.
-pub(crate) fn check_list(
-    rt: &HostRuntime,
-    list: &[u8],
-    options: &Options,
-) -> Result<bool, Unwritten> {
-    if is_dash(list) {
-        return check_all(
-            rt,
-            &mut host::standard_input(rt),
-            b"standard input",
-            true,
-            options,
-        );
-    }
-    match host::open(rt, list) {
-        Ok(mut from) => check_all(rt, &mut from, list, false, options),
+pub(crate) fn check_list(rt: &HostRuntime, list: &[u8], options: &Options) -> Result<bool, Failed> {
+    let mut from = match command::open(rt, list) {
+        Ok(from) => from,
         Err(error) => {
-            say_why(rt, list, error);
-            Ok(false)
+            PROGRAM.say_why(rt, list, error);
+            return Ok(false);
         }
+    };
+    match list {
+        b"-" => check_all(rt, &mut from, b"standard input", true, options),
+        _ => check_all(rt, &mut from, list, false, options),
     }
 }

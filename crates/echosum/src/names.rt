@@ -1,9 +1,8 @@
 // Names in a list, some of them escaped as `lines` escapes them.
-ghost use Rattle.std.specs.Prelude.{◌≡◌};
-ghost use Rattle.lines.specs.Lines.{Put};
+ghost use Rattle.std.specs.Prelude.{◌≡◌, ◌++◌, take};
 ghost use Rattle.echosum.specs.Names.{are_escapes, fault_at, is_name, meant_by, opens_at, undone_at, unescaped};
 
-use lines::put;
+use lines::Line;
 
 // The byte that a letter behind a backslash stands for.
 #[tactic(auto, unfolding(crate::specs::Names::meant_by))]
@@ -62,27 +61,27 @@ pub(crate) fn is_name(text: &[u8], is_escaped: bool) -> bool
 }
 
 // One byte of a text whose escapes are undone.
-fn put_undone(room: &mut [u8], at: usize, is_open: bool, byte: u8) -> usize
-    ensures { Put room.old at (undone_at is_open byte) room.new result }
+fn put_undone<const N: usize>(line: &mut Line<N>, is_open: bool, byte: u8)
+    ensures { line.new ≡ take N (line.old ++ undone_at is_open byte) }
 {
     if is_open {
-        return put(room, at, &[meant(byte).unwrap_or(0)]);
+        line.text(&[meant(byte).unwrap_or(0)]);
+    } else if byte == b'\\' {
+        line.text(&[]);
+    } else {
+        line.text(&[byte]);
     }
-    if byte == b'\\' {
-        return put(room, at, &[]);
-    }
-    put(room, at, &[byte])
 }
 
-// The name that an escaped one stands for, at the front of the room. Answers its end.
-pub(crate) fn put_unescaped(room: &mut [u8], text: &[u8]) -> usize
-    ensures { Put room.old 0 (unescaped text.now) room.new result }
+// The name that an escaped one stands for.
+pub(crate) fn put_unescaped<const N: usize>(line: &mut Line<N>, text: &[u8])
+    ensures { line.new ≡ take N (line.old ++ unescaped text.now) }
 {
-    let mut end = 0;
+    // So that a line that gets no byte is within its room too.
+    prove!(line.bytes().len() <= N);
     let mut is_open = false;
     for byte in text {
-        end = put_undone(room, end, is_open, *byte);
+        put_undone(line, is_open, *byte);
         is_open = opens(is_open, *byte);
     }
-    end
 }

@@ -1,27 +1,24 @@
 // The command line, taken word by word.
 use super::listed::Terms;
 use super::style::Style;
+use command::{BadWord, Stop, Word, kind_of, verdict_in};
 use digits::{number_in, salt_in};
 use echo::Mode;
-
-// A word that can't be read.
-#[derive(Clone, Copy)]
-pub(crate) struct BadWord;
-
-// What a word that can be read is.
-#[derive(Clone, Copy)]
-pub(crate) enum Word {
-    Option,
-    File,
-    Help,
-    Version,
-}
 
 // What the word behind a flag is.
 #[derive(Clone, Copy)]
 pub(crate) enum Value {
     Bits,
     Salt,
+}
+
+impl Value {
+    pub fn flag(self) -> &'static [u8] {
+        match self {
+            Value::Bits => b"-b",
+            Value::Salt => b"-s",
+        }
+    }
 }
 
 // Which results of a check are printed.
@@ -46,7 +43,7 @@ pub(crate) struct Options {
     pub printed: Printed,
     pub is_strict: bool,
     pub passes_missing: bool,
-    // the descriptor that the verdict goes to
+    // the descriptor that the verdict goes to. The first word that names one counts: it is the one of whoever waits for the verdict
     pub verdict: Option<i32>,
     // whether any word was a file
     pub has_file: bool,
@@ -75,81 +72,63 @@ pub(crate) fn defaults() -> Options {
 }
 
 impl Options {
-    // Takes one word more.
-    pub fn take(&mut self, word: &[u8]) -> Result<Word, BadWord> {
+    // Takes one word more, and hands it back where it names a file. (command's `Common` takes one file, and here each word may be one.)
+    pub fn take<'a>(&mut self, word: &'a [u8]) -> Result<Option<&'a [u8]>, Stop<'a>> {
         match self.awaited.take() {
-            Some(Value::Bits) => self.take_bits(word),
-            Some(Value::Salt) => self.take_salt(word),
-            None => self.take_word(word),
+            Some(Value::Bits) => self.take_bits(word, word)?,
+            Some(Value::Salt) => self.take_salt(word, word)?,
+            None => return self.take_word(word),
         }
+        Ok(None)
     }
 
-    fn take_bits(&mut self, word: &[u8]) -> Result<Word, BadWord> {
-        self.bits = Some(number_in(word).ok_or(BadWord)?);
-        Ok(Word::Option)
-    }
-
-    fn take_salt(&mut self, word: &[u8]) -> Result<Word, BadWord> {
-        self.salt = salt_in(word).ok_or(BadWord)?;
-        Ok(Word::Option)
-    }
-
-    // A word that is no value. A dash alone is a file's name.
-    fn take_word(&mut self, word: &[u8]) -> Result<Word, BadWord> {
-        match word {
-            [b'-', b'-', name @ ..] if !self.is_ended => self.take_long(name),
-            [b'-', flag, value @ ..] if !self.is_ended => self.take_flag(*flag, value),
-            _ => {
+    // A word that is no value.
+    fn take_word<'a>(&mut self, word: &'a [u8]) -> Result<Option<&'a [u8]>, Stop<'a>> {
+        match kind_of(word, self.is_ended) {
+            Word::File => {
                 self.has_file = true;
-                Ok(Word::File)
+                return Ok(Some(word));
             }
+            Word::End => self.is_ended = true,
+            Word::Help => return Err(Stop::Help),
+            Word::Version => return Err(Stop::Version),
+            Word::Flag => self.take_flag(word)?,
         }
+        Ok(None)
     }
 
-    // A dash and a letter, which may have its value behind it in the same word.
-    fn take_flag(&mut self, flag: u8, value: &[u8]) -> Result<Word, BadWord> {
-        match (flag, value) {
-            (b'1', []) => self.mode = Mode::SinglePipe,
-            (b'b', []) => self.awaited = Some(Value::Bits),
-            (b's', []) => self.awaited = Some(Value::Salt),
-            (b'c', []) => self.asks_check = true,
-            (b'z', []) => self.is_zero_ended = true,
-            (b'h', []) => return Ok(Word::Help),
-            (b'b', bits) => return self.take_bits(bits),
-            (b's', salt) => return self.take_salt(salt),
-            _ => return Err(BadWord),
-        }
-        Ok(Word::Option)
-    }
-
-    // Two dashes, alone or with a word.
-    fn take_long(&mut self, name: &[u8]) -> Result<Word, BadWord> {
-        match name {
-            b"" => self.is_ended = true,
-            b"help" => return Ok(Word::Help),
-            b"version" => return Ok(Word::Version),
-            b"tag" => self.is_tagged = true,
-            b"zero" => self.is_zero_ended = true,
-            b"check" => self.asks_check = true,
+    fn take_flag<'a>(&mut self, word: &'a [u8]) -> Result<(), BadWord<'a>> {
+        match word {
+            b"-1" => self.mode = Mode::SinglePipe,
+            b"-b" => self.awaited = Some(Value::Bits),
+            b"-s" => self.awaited = Some(Value::Salt),
+            b"-c" | b"--check" => self.asks_check = true,
+            b"-z" | b"--zero" => self.is_zero_ended = true,
+            b"--tag" => self.is_tagged = true,
             // Of these two the last one counts.
-            b"quiet" => self.printed = Printed::Failures,
-            b"status" => self.printed = Printed::None,
-            b"strict" => self.is_strict = true,
-            b"ignore-missing" => self.passes_missing = true,
-            _ => return self.take_verdict(name),
+            b"--quiet" => self.printed = Printed::Failures,
+            b"--status" => self.printed = Printed::None,
+            b"--strict" => self.is_strict = true,
+            b"--ignore-missing" => self.passes_missing = true,
+            // A value may stand behind its flag in the same word.
+            [b'-', b'b', bits @ ..] => self.take_bits(word, bits)?,
+            [b'-', b's', salt @ ..] => self.take_salt(word, salt)?,
+            _ => {
+                let given = verdict_in(word).ok_or(BadWord::Unknown(word))?;
+                self.verdict = self.verdict.or(Some(given));
+            }
         }
-        Ok(Word::Option)
+        Ok(())
     }
 
-    // The first such word counts: it is the one of whoever waits for the verdict.
-    fn take_verdict(&mut self, name: &[u8]) -> Result<Word, BadWord> {
-        match name.strip_prefix(b"verdict-fd=") {
-            Some([digit @ b'3'..=b'9']) => {
-                self.verdict = self.verdict.or(Some(i32::from(*digit - b'0')));
-                Ok(Word::Option)
-            }
-            _ => Err(BadWord),
-        }
+    fn take_bits<'a>(&mut self, word: &'a [u8], bits: &[u8]) -> Result<(), BadWord<'a>> {
+        self.bits = Some(number_in(bits).ok_or(BadWord::Unknown(word))?);
+        Ok(())
+    }
+
+    fn take_salt<'a>(&mut self, word: &'a [u8], salt: &[u8]) -> Result<(), BadWord<'a>> {
+        self.salt = salt_in(salt).ok_or(BadWord::Unknown(word))?;
+        Ok(())
     }
 
     pub fn bits(&self) -> u64 {

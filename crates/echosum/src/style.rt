@@ -1,12 +1,10 @@
 // How the line of a digest is written: with a tag or without, and with a line end or a zero byte behind it.
-ghost use Rattle.std.specs.Prelude.{◌≤◌, ◌≡◌, length, ◌++◌};
-ghost use Rattle.lines.specs.Decimal.{decimal_of};
-ghost use Rattle.lines.specs.Lines.{Put};
-ghost use Rattle.echosum.specs.Listed.{begins, mode_text};
+ghost use Rattle.std.specs.Prelude.{◌≤◌, ◌≡◌, ◌++◌, length, take};
+ghost use Rattle.echosum.specs.Listed.{mode_text};
 ghost use Rattle.echosum.specs.Style.{back_of, end_of, front_of, line_of, tag_of};
 
 use echo::Mode;
-use lines::{put, put_decimal, put_hex, put_named};
+use lines::Line;
 
 #[derive(Clone, Copy)]
 pub(crate) struct Style {
@@ -18,86 +16,70 @@ pub(crate) struct Style {
     pub salt: [u8; 16],
 }
 
-// ECHO-BITS-MODE- at the front of the room.
-fn put_kind(room: &mut [u8], bits: u64, mode: Mode) -> usize
-    ensures { Put room.old 0 (begins ++ (decimal_of bits ++ mode_text mode)) room.new result }
-{
-    let begun = put(room, 0, b"ECHO-");
-    let numbered = put_decimal(room, begun, bits);
-    put_mode(room, numbered, mode)
-}
-
-// And the salt and a bracket behind it.
-fn put_tag(room: &mut [u8], style: Style) -> usize
-    ensures { Put room.old 0 (tag_of style.bits style.mode style.salt) room.new result }
-{
-    let told = put_kind(room, style.bits, style.mode);
-    let salted = put_hex(room, told, &style.salt);
-    put(room, salted, b" (")
-}
-
-fn put_mode(room: &mut [u8], at: usize, mode: Mode) -> usize
-    ensures { Put room.old at (mode_text mode) room.new result }
+fn mode_text(mode: Mode) -> &'static [u8]
+    ensures { result.now ≡ mode_text mode }
 {
     match mode {
-        Mode::SinglePipe => put(room, at, b"-single-"),
-        Mode::DoublePipe => put(room, at, b"-double-"),
+        Mode::SinglePipe => b"-single-",
+        Mode::DoublePipe => b"-double-",
     }
+}
+
+// ECHO-BITS-MODE-SALT, a space and a bracket.
+#[tactic(auto, unfolding(crate::specs::Style::tag_of))]
+fn put_tag<const N: usize>(line: &mut Line<N>, style: Style)
+    ensures { line.new ≡ take N (line.old ++ tag_of style.bits style.mode style.salt) }
+{
+    line.text(b"ECHO-")
+        .decimal(style.bits)
+        .text(mode_text(style.mode))
+        .hex(&style.salt)
+        .text(b" (");
 }
 
 // What stands in front of the name.
-fn put_front(room: &mut [u8], style: Style, digest: &[u8]) -> usize
-    ensures { Put room.old 0 (front_of style digest.now) room.new result }
+#[tactic(auto, unfolding(crate::specs::Style::front_of))]
+fn put_front<const N: usize>(line: &mut Line<N>, style: Style, digest: &[u8])
+    ensures { line.new ≡ take N (line.old ++ front_of style digest.now) }
 {
     if style.is_tagged {
-        return put_tag(room, style);
+        put_tag(line, style);
+    } else {
+        line.hex(digest).text(b"  ");
     }
-    let spelled = put_hex(room, 0, digest);
-    put(room, spelled, b"  ")
+}
+
+#[tactic(auto, unfolding(crate::specs::Style::end_of))]
+fn end(is_zero: bool) -> &'static [u8]
+    ensures { result.now ≡ end_of is_zero }
+{
+    if is_zero { b"\0" } else { b"\n" }
 }
 
 // What stands behind it.
-fn put_back(room: &mut [u8], style: Style, digest: &[u8]) -> usize
-    ensures { Put room.old 0 (back_of style digest.now) room.new result }
+#[tactic(auto, unfolding(crate::specs::Style::back_of))]
+fn put_back<const N: usize>(line: &mut Line<N>, style: Style, digest: &[u8])
+    ensures { line.new ≡ take N (line.old ++ back_of style digest.now) }
 {
+    let end = end(style.is_zero_ended);
     if style.is_tagged {
-        let closed = put(room, 0, b") = ");
-        let spelled = put_hex(room, closed, digest);
-        return put_end(room, spelled, style.is_zero_ended);
+        line.text(b") = ").hex(digest).text(end);
+    } else {
+        line.text(end);
     }
-    put_end(room, 0, style.is_zero_ended)
-}
-
-fn put_end(room: &mut [u8], at: usize, is_zero: bool) -> usize
-    ensures { Put room.old at (end_of is_zero) room.new result }
-{
-    if is_zero {
-        return put(room, at, b"\0");
-    }
-    put(room, at, b"\n")
-}
-
-// A name between two texts, as it is.
-fn put_as_is(room: &mut [u8], before: &[u8], name: &[u8], after: &[u8]) -> usize
-    ensures { Put room.old 0 (before.now ++ name.now ++ after.now) room.new result }
-{
-    let begun = put(room, 0, before);
-    let named = put(room, begun, name);
-    put(room, named, after)
 }
 
 // The line of a digest of at most sixty-four bytes. A name is escaped where a line end would end the line. (That a salt has sixteen bytes is
 // said since the proof finds it in no other way.)
-pub(crate) fn put_line(room: &mut [u8], style: Style, digest: &[u8], name: &[u8]) -> usize
-    ensures within { result ≤ length room.new }
-    ensures is { length digest.now ≤ 64 → length style.salt ≡ 16 → Put room.old 0 (line_of style digest.now name.now) room.new result }
+pub(crate) fn put_line<const N: usize>(line: &mut Line<N>, style: Style, digest: &[u8], name: &[u8])
+    ensures { length digest.now ≤ 64 → length style.salt ≡ 16 → line.new ≡ take N (line.old ++ line_of style digest.now name.now) }
 {
-    let mut front = [0u8; 130];
-    let begun = put_front(&mut front, style, digest);
-    let mut back = [0u8; 133];
-    let ended = put_back(&mut back, style, digest);
+    let mut front = Line::<130>::new();
+    put_front(&mut front, style, digest);
     if style.is_zero_ended {
-        return put_as_is(room, &front[0..begun], name, &back[0..ended]);
+        line.text(front.bytes()).text(name);
+    } else {
+        line.named(front.bytes(), name, b"");
     }
-    put_named(room, 0, &front[0..begun], name, &back[0..ended])
+    put_back(line, style, digest);
 }

@@ -1,11 +1,13 @@
 // The digest of a file, and the line that is printed of it.
 ghost use Rattle.std.specs.Prelude.{◌≤◌, IfOk};
 
-use super::printing::{Unwritten, print};
-use super::saying::{say_too_long, say_why};
+use super::help::PROGRAM;
+use super::saying::say_too_long;
 use super::style::{Style, put_line};
+use command::{Failed, open};
 use echo::Session;
 use host::{NO_FILE, Source};
+use lines::Line;
 
 // A file or a list that can't be read, which is said.
 #[derive(Clone, Copy)]
@@ -36,19 +38,20 @@ fn add_some(
     let n = match host::read(from, &mut room) {
         Ok(n) => n,
         Err(error) => {
-            say_why(rt, name, error);
+            PROGRAM.say_why(rt, name, error);
             return Err(Unread);
         }
     };
     if n == 0 {
         return Ok(None);
     }
-    let adding = session.add(&room[..n]);
-    if adding.refusal != 0 {
-        say_too_long(rt, name);
-        return Err(Unread);
+    match session.add(&room[..n]) {
+        Ok(longer) => Ok(Some(longer)),
+        Err(_) => {
+            say_too_long(rt, name);
+            Err(Unread)
+        }
     }
-    Ok(Some(adding.session))
 }
 
 // Reads to the end of the file. Nothing says that a file ends, so the turns are counted, up to a number that no run comes to.
@@ -78,15 +81,14 @@ fn digest_into(
     ensures { IfOk result (λ length. length ≤ 64) }
 {
     let whole = add_all(rt, from, name, session)?;
-    let reading = whole.read(room);
     // No opened session is refused here. That this one was not shows that its digest fits the room.
-    if reading.refusal != 0 {
-        return Err(Unread);
+    match whole.read(room) {
+        Ok(_) => Ok((whole.bits / 8) as usize),
+        Err(_) => Err(Unread),
     }
-    Ok((whole.bits / 8) as usize)
 }
 
-// Prints the line of what is read, and answers whether there is one. A room holds a name of 4,096 bytes, each of them escaped, and what stands
+// Prints the line of what is read, and answers whether there is one. A line holds a name of 4,096 bytes, each of them escaped, and what stands
 // around it.
 fn sum(
     rt: &HostRuntime,
@@ -94,20 +96,15 @@ fn sum(
     from: &mut Source,
     name: &[u8],
     style: Style,
-) -> Result<bool, Unwritten> {
+) -> Result<bool, Failed> {
     let mut digest = [0u8; 64];
     let Ok(n) = digest_into(rt, session, from, name, &mut digest) else {
         return Ok(false);
     };
-    let mut line = [0u8; 8448];
-    let end = put_line(&mut line, style, &digest[..n], name);
-    print(rt, &line[..end])?;
+    let mut line = Line::<8448>::new();
+    put_line(&mut line, style, &digest[..n], name);
+    PROGRAM.print(rt, line.bytes())?;
     Ok(true)
-}
-
-// A dash is standard input.
-pub(crate) fn is_dash(name: &[u8]) -> bool {
-    matches!(name, b"-")
 }
 
 // The line of a file.
@@ -116,14 +113,11 @@ pub(crate) fn sum_named(
     session: Session,
     name: &[u8],
     style: Style,
-) -> Result<bool, Unwritten> {
-    if is_dash(name) {
-        return sum(rt, session, &mut host::standard_input(rt), name, style);
-    }
-    match host::open(rt, name) {
+) -> Result<bool, Failed> {
+    match open(rt, name) {
         Ok(mut from) => sum(rt, session, &mut from, name, style),
         Err(error) => {
-            say_why(rt, name, error);
+            PROGRAM.say_why(rt, name, error);
             Ok(false)
         }
     }
@@ -148,14 +142,11 @@ pub(crate) fn digest_named(
     name: &[u8],
     passes_missing: bool,
 ) -> Result<[u8; 64], NoDigest> {
-    if is_dash(name) {
-        return digest_of(rt, session, &mut host::standard_input(rt), name);
-    }
-    match host::open(rt, name) {
+    match open(rt, name) {
         Ok(mut from) => digest_of(rt, session, &mut from, name),
         Err(error) if passes_missing && error == NO_FILE => Err(NoDigest::Missing),
         Err(error) => {
-            say_why(rt, name, error);
+            PROGRAM.say_why(rt, name, error);
             Err(NoDigest::Unread)
         }
     }

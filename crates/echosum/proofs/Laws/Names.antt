@@ -8,11 +8,12 @@ use native.Mathlib.Omega.{arith}
 use borrow.Author.Tests.{ne_eqb}
 use lib.Dec.{eqb}
 use lib.ListN.{drop, get_or, length, take}
-use lib.Seq.{drop-cons, drop-length, take-length, take-suc}
+use lib.Seq.{drop-cons, drop-length, take-suc}
 use Rattle.std.specs.List.{list_any}
-use Rattle.lines.specs.Lines.{Put, spread}
+use Rattle.std.proofs.lemmas.List.{take_all}
+use Rattle.lines.specs.Lines.{spread}
 use Rattle.lines.specs.Names.{escape_of}
-use Rattle.lines.proofs.Promises.{escape_cases, put_join, put_nothing, spread_cons, spread_nil}
+use Rattle.lines.proofs.Promises.{escape_cases, put_behind, spread_cons, spread_nil}
 use Rattle.echosum.specs.Bytes.{holds_of}
 use Rattle.echosum.specs.Names.{are_escapes, are_escapes_from, fault_at, is_name, meant_by, opens_at, unescaped, unescaped_from, undone_at}
 use Rattle.echosum.proofs.Laws.Style.{by}
@@ -93,23 +94,19 @@ module _ (text : List ℕ) where
     unfolding opened_after
     opened_next p r = r ∙ rw (q, add-one i, take-suc text i 0 h, opened_append)
 
-    module _ (room mid after : List ℕ) (end r : ℕ) where
-      pub undone_next : Put room 0 (unescaped (take i text)) mid end → Put mid end (undone_at o (get_or text i 0)) after r
-          → Put room 0 (unescaped (take (i + 1) text)) after r
+    module _ (size : ℕ) (line so_far next : List ℕ) where
+      pub undone_next : so_far ≡ take size (line ++ unescaped (take i text)) → next ≡ take size (so_far ++ undone_at o (get_or text i 0))
+          → next ≡ take size (line ++ unescaped (take (i + 1) text))
       unfolding unescaped unescaped_from
       undone_next s t =
           let e : unescaped_from false (take (i + 1) text) ≡ unescaped_from false (take i text) ++ undone_at o (get_or text i 0)
           = rw (add-one i, take-suc text i 0 h, undone_append, ← q, append-nil) in
-          rw e (put_join room 0 _ mid end _ after r s t)
+          t ∙ rw (s, put_behind, e) (rw append_assoc)
 
-  module _ (room : List ℕ) where
-    pub undone_none : Put room 0 (unescaped (take 0 text)) room 0
+  module _ (size : ℕ) (line : List ℕ) where
+    pub undone_none : length line ≤ size → line ≡ take size (line ++ unescaped (take 0 text))
     unfolding unescaped unescaped_from
-    undone_none = put_nothing room 0 0 (omega arith)
-
-    pub undone_all : (i : ℕ) (after : List ℕ) (r : ℕ) → i ≤ length text → length text ≤ i → Put room 0 (unescaped (take i text)) after r
-        → Put room 0 (unescaped text) after r
-    undone_all i after r h g p = let l : i ≡ length text = omega arith in rw (l, take-length) at p
+    undone_none h = rw append-nil (sym (take_all size line h))
 
 -- ---- what was escaped
 

@@ -1,9 +1,10 @@
--- `put_back` meets its contract, with a tag and without. Assumes nothing.
-use Rattle.echosum.proofs.Laws.Style.{plain_back, tagged_back}
+-- `put_back` meets its contract, with a tag: three texts, one behind the other. Assumes nothing.
+use Rattle.std.proofs.Common.{arith}
+use Rattle.echosum.proofs.Laws.Style.{back_put}
 use Rattle.echosum.proofs.style.put_back.Goals as goal
 
 pub returns-then-style : goal.returns-then-style
-returns-then-style c = search tagged_back
-
-pub returns : goal.returns
-returns c = search plain_back
+returns-then-style g c =
+    let put =
+    back_put _ c.args.style _ _ _ _ _ _ c.if-style.true c.end-end.ensures c.text.ensures.text c.hex.ensures.text c.text-then-style.ensures.text in
+    grind (arith, put)

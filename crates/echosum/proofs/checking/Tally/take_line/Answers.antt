@@ -8,5 +8,5 @@ slice_bounds-put_listed-count c = let said = c.in-Some.ensures in search name_st
 pub slice_bounds-put_listed-start : goal.slice_bounds-put_listed-start
 slice_bounds-put_listed-start c = let said = c.in-Some.ensures in search name_starts
 
-pub slice_bounds-put_listed-end-2 : goal.slice_bounds-put_listed-end-2
-slice_bounds-put_listed-end-2 c = let said = c.in-Some.ensures in search name_ends
+pub slice_bounds-put_listed-end : goal.slice_bounds-put_listed-end
+slice_bounds-put_listed-end c = let said = c.in-Some.ensures in search name_ends

@@ -14,6 +14,8 @@ use lib.Bits.{bit_xor}
 use lib.Dec.{T, eqb, ltb}
 use lib.ListN.{length, get_or, set, length-set}
 use lib.Seq.{get_or-set_same, get_or-set_other}
+use Rattle.std.specs.Array.{IsMapOf}
+use Rattle.std.specs.Fn.{Called, Mut}
 use Rattle.aes_round.specs.declared.rows.RowTables.{RowTables}
 use Rattle.aes_round.specs.Array.{array, column, entry}
 use Rattle.aes_round.specs.ByTables.{mix_numbers, row_table, row_tables, table_round}
@@ -25,6 +27,7 @@ use Rattle.aes_round.proofs.Laws.Array as arrays
 use Rattle.aes_round.proofs.Laws.ByTables as by-tables
 use Rattle.aes_round.proofs.Laws.Bytes as bytes
 use Rattle.aes_round.proofs.Laws.Every as tests
+use Rattle.aes_round.proofs.Laws.Made as arrays-made
 use Rattle.aes_round.proofs.Laws.Mixing as mixing
 use Rattle.aes_round.proofs.Laws.Numbers as words
 use Rattle.aes_round.proofs.Laws.Rounds as rounds
@@ -66,6 +69,11 @@ is_tab = bytes.is_tab
 
 pub tab_ext : (n : ℕ) (f g : ℕ → ℕ) → ((k : ℕ) → k < n → f k ≡ g k) → tab n f ≡ tab n g
 tab_ext = bytes.tab_ext
+
+-- what an array's `map` makes, by a closure that gives h x of each x and stays as it is
+pub mapped : {F : Type 0} (g : Mut F (ℕ × Unit {0}) ℕ) (n : ℕ) (h : ℕ → ℕ) (f : F)
+    → ((x y : ℕ) (f' : F) → Called g f (x, tt) y f' → (y ≡ h x) × (f' ≡ f)) → (xs ys : List ℕ) → IsMapOf g f xs ys n → ys ≡ tab n (λ k. h (get_or xs k 0))
+mapped = arrays-made.mapped
 
 -- ---- lists of n bytes
 

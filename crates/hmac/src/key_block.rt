@@ -30,10 +30,15 @@ pub(crate) fn key_block(bits: u64, salt: &[u8], key: &[u8]) -> Result<[u8; 192],
         echo::digest(Mode::DoublePipe, bits, salt, key, &mut block)?;
         return Ok(block);
     }
-    for i in 0..n {
-        block[i] = key[i];
-    }
+    block[..n].copy_from_slice(key);
     Ok(block)
+}
+
+// The block xored with a pad of one byte repeated.
+fn xored(block: [u8; 192], pad: u8) -> [u8; 192]
+    ensures { result ≡ xor_bytes 192 block (replicate 192 pad) }
+{
+    block.map(|byte| byte ^ pad)
 }
 
 // A digest session to which K0, at the front of `block`, was added, xored with a pad of one byte repeated.
@@ -43,9 +48,6 @@ pub(crate) fn keyed(fresh: Session, block: [u8; 192], pad: u8) -> Session
     ensures { result ≡ add_bytes fresh (xor_bytes (block_size fresh.bits) (take (block_size fresh.bits) block) (replicate (block_size fresh.bits) pad)) }
 {
     let b = block_size(fresh.bits);
-    let mut padded = [0u8; 192];
-    for i in 0..b {
-        padded[i] = block[i] ^ pad;
-    }
+    let padded = xored(block, pad);
     fresh.add(&padded[..b]).unwrap()
 }

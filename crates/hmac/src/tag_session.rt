@@ -45,13 +45,7 @@ fn counts_fit(inner: u64, outer: u64, bits: u64) -> bool
     ensures { result ≡ counts_fit inner outer bits }
 {
     let b = 8 * (block_size(bits) as u64);
-    if outer != b {
-        return false;
-    }
-    if inner < b {
-        return false;
-    }
-    inner % 8 == 0
+    outer == b && b <= inner && inner % 8 == 0
 }
 
 impl TagSession {

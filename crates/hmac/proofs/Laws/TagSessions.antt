@@ -4,7 +4,7 @@ use mathlib.Core.Bool.{Bool, true, false, not, ◌&&◌, true≢false}
 use mathlib.Core.List.{List, ◌++◌}
 use Prim.Native.Nat.{ℕ, ◌+◌, ◌*◌, ◌/◌, ◌%◌, ◌^◌, ◌<◌, ◌≤◌}
 use native.Mathlib.Omega.{arith}
-use borrow.Author.Tests.{eq-eqb, eqb-true, le-leb, leb-true, le-ltb, lt-leb, ltb-false, ltb-true, ne_eqb, not-false, not-true}
+use borrow.Author.Tests.{eq-eqb, eqb-true, le-leb, leb-true, le-ltb, ltb-false, ltb-true, ne_eqb, not-false, not-true}
 use denote.Enum.Bare.{sameb}
 use lib.Dec.{eqb, leb, ltb}
 use lib.ListN.{drop, length, replicate, take}
@@ -84,15 +84,8 @@ module _ (inner outer h b : ℕ) (size : b ≡ block_size h) where
   bits_of : 8 * block_size h ≡ 8 * b
   bits_of = ap (λ (x : ℕ). 8 * x) (sym size)
 
-  pub other_count : (outer ≡ 8 * b → ⊥) → false ≡ counts_fit inner outer h
-  other_count n = rw (bits_of, ne_eqb outer (8 * b) n)
-
-  module _ (count : outer ≡ 8 * b) where
-    pub too_few : inner < 8 * b → false ≡ counts_fit inner outer h
-    too_few n = rw (bits_of, eq-eqb outer (8 * b) count, lt-leb (8 * b) inner n)
-
-    pub right_count : 8 * b ≤ inner → eqb (inner % 8) 0 ≡ counts_fit inner outer h
-    right_count n = rw (bits_of, eq-eqb outer (8 * b) count, le-leb (8 * b) inner n)
+  right_count : outer ≡ 8 * b → 8 * b ≤ inner → eqb (inner % 8) 0 ≡ counts_fit inner outer h
+  right_count count n = rw (bits_of, eq-eqb outer (8 * b) count, le-leb (8 * b) inner n)
 
 -- as the code compares modes
 same_mode : (mode : Mode) → sameb the_type mode DoublePipe ≡ is_double_pipe mode

@@ -1,10 +1,7 @@
--- `key_block` meets its contract: a long key is digested, any other is copied byte by byte. Assumes nothing.
+-- `key_block` meets its contract: a long key is digested, any other is copied. Assumes nothing.
+use Rattle.std.proofs.Common.{sym}
 use Rattle.std.proofs.lemmas.Result.{err_from_is_err_and}
-use mathlib.Core.Path.{refl}
-use native.Mathlib.Omega.{arith}
-use borrow.Author.Rules.{rules}
-use Rattle.aes_round.proofs.Promises.{fill_none}
-use Rattle.hmac.proofs.Laws.KeyBlock.{copied_block, copied_number, copy_more, digested_block, digested_number, key_within}
+use Rattle.hmac.proofs.Laws.KeyBlock.{copied_block, copied_number, digested_block, digested_number, key_within, room_for}
 use Rattle.hmac.proofs.key_block.key_block.Goals as goal
 
 pub returns-in_err-digest-clause-refusal_value : goal.returns-in_err-digest-clause-refusal_value
@@ -18,17 +15,17 @@ returns-then-block_size-n-clause-refusal_value c = search (digested_number, c.in
 pub returns-then-block_size-n-clause-bytes_value : goal.returns-then-block_size-n-clause-bytes_value
 returns-then-block_size-n-clause-bytes_value c = search (digested_block, c.in_ok-digest.ensures.refusal)
 
-pub loop-i-init : goal.loop-i-init
-loop-i-init c = (search rules, search rules, search key_within, fill_none _ _ _ refl)
+pub slice_bounds-block-end : goal.slice_bounds-block-end
+slice_bounds-block-end c = search key_within
 
-pub bounds-block-i : goal.bounds-block-i
-bounds-block-i c = omega arith
+pub slice_bounds-copy_from_slice-end : goal.slice_bounds-copy_from_slice-end
+slice_bounds-copy_from_slice-end c = room_for _ (search key_within)
 
-pub loop-i-preserved : goal.loop-i-preserved
-loop-i-preserved c = (search rules, search rules, search rules, search copy_more)
+pub copy_from_slice-requires : goal.copy_from_slice-requires
+copy_from_slice-requires c = sym (room_for _ (search key_within))
 
 pub returns-clause-refusal_value : goal.returns-clause-refusal_value
 returns-clause-refusal_value c = search copied_number
 
 pub returns-clause-bytes_value : goal.returns-clause-bytes_value
-returns-clause-bytes_value c = search copied_block
+returns-clause-bytes_value c = search (copied_block, c.copy_from_slice.ensures.after)

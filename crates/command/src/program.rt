@@ -5,7 +5,7 @@ ghost use Rattle.std.specs.Io.{ReadsAtMost};
 use super::files::{LONGEST_WORD, open};
 use super::words::{Asked, BadWord, Stop};
 use host::Error;
-use lines::{put, put_named, put_reason};
+use lines::Line;
 
 #[derive(Clone, Copy)]
 pub struct Program {
@@ -20,25 +20,22 @@ pub struct Program {
 pub struct Failed;
 
 impl Program {
-    // A line with a name in it. The room holds one of 8,448 bytes, each of them escaped, and what stands around it: no word of the command line and no
-    // line of a list has a longer one.
+    // A line with a name in it. It holds one of 8,448 bytes, each of them escaped, and what stands around it: no word of the command line and no line
+    // of a list has a longer one.
     pub fn say(&self, rt: &HostRuntime, before: &[u8], name: &[u8], after: &[u8]) -> Failed {
-        let mut front = [0u8; 64];
-        let named = put(&mut front, 0, self.name);
-        let told = put(&mut front, named, before);
-        let mut line = [0u8; 17152];
-        let end = put_named(&mut line, 0, &front[..told], name, after);
-        let _ = host::say(rt, &line[..end]);
+        let mut front = Line::<64>::new();
+        front.text(self.name).text(before);
+        let mut line = Line::<17152>::new();
+        line.named(front.bytes(), name, after);
+        let _ = host::say(rt, line.bytes());
         Failed
     }
 
     // Says why a call failed.
     pub fn say_why(&self, rt: &HostRuntime, name: &[u8], error: Error) -> Failed {
-        let mut why = [0u8; 64];
-        let begun = put(&mut why, 0, b": ");
-        let reason = put_reason(&mut why, begun, error.number);
-        let end = put(&mut why, reason, b"\n");
-        self.say(rt, b": ", name, &why[..end])
+        let mut why = Line::<64>::new();
+        why.text(b": ").reason(error.number).text(b"\n");
+        self.say(rt, b": ", name, why.bytes())
     }
 
     pub fn say_bad_word(&self, rt: &HostRuntime, bad: BadWord) -> Failed {
@@ -48,11 +45,9 @@ impl Program {
             BadWord::BadSalt(word) => (b": bad salt ", word),
             BadWord::NoValue(word) => (b": no value behind ", word),
         };
-        let mut usage = [0u8; 128];
-        let begun = put(&mut usage, 0, b" (usage: ");
-        let called = put(&mut usage, begun, self.usage);
-        let end = put(&mut usage, called, b")\n");
-        self.say(rt, what, word, &usage[..end])
+        let mut usage = Line::<128>::new();
+        usage.text(b" (usage: ").text(self.usage).text(b")\n");
+        self.say(rt, what, word, usage.bytes())
     }
 
     // Writes to standard output.
@@ -61,10 +56,9 @@ impl Program {
     }
 
     pub fn print_version(&self, rt: &HostRuntime) -> Result<(), Failed> {
-        let mut line = [0u8; 64];
-        let named = put(&mut line, 0, self.name);
-        let end = put(&mut line, named, b" (Bahmorist) 0.8.0\n");
-        self.print(rt, &line[..end])
+        let mut line = Line::<64>::new();
+        line.text(self.name).text(b" (Bahmorist) 0.8.0\n");
+        self.print(rt, line.bytes())
     }
 
     // What the words ask for. Each is given to `take`, with its place, up to the first that stops it. A bad one is said.

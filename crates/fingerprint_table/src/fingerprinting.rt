@@ -1,14 +1,13 @@
 // The line of a table's fingerprint.
 use super::help::PROGRAM;
 use command::Failed;
-use lines::{put, put_hex};
+use lines::Line;
 use table_refusals::Refused;
 
 fn print_hex(rt: &HostRuntime, bytes: &[u8]) -> Result<(), Failed> {
-    let mut line = [0u8; 65];
-    let spelled = put_hex(&mut line, 0, bytes);
-    let end = put(&mut line, spelled, b"\n");
-    PROGRAM.print(rt, &line[..end])
+    let mut line = Line::<65>::new();
+    line.hex(bytes).text(b"\n");
+    PROGRAM.print(rt, line.bytes())
 }
 
 // A table that is refused has the line of its refusal.
@@ -19,15 +18,13 @@ pub(crate) fn print_under(
     explains: bool,
 ) -> Result<(), Failed> {
     let mut out = [0u8; 32];
-    let answer = steering::fingerprint(salt, table, &mut out);
-    if answer.refusal != 0 {
-        let refused = Refused {
-            number: answer.refusal,
-            place: answer.place,
+    match steering::fingerprint(salt, table, &mut out) {
+        Ok(()) => print_hex(rt, &out),
+        Err(refusal) => Refused {
+            refusal,
             table,
             salt: Some(salt),
-        };
-        return refused.tell(rt, &PROGRAM, explains);
+        }
+        .tell(rt, &PROGRAM, explains),
     }
-    print_hex(rt, &out)
 }

@@ -31,11 +31,7 @@ impl Options {
     }
 
     fn take_salt<'a>(&mut self, word: &'a [u8]) -> Result<(), Stop<'a>> {
-        let given = salt_in(word);
-        if !given.is_good {
-            return Err(Stop::Bad(BadWord::BadSalt(word)));
-        }
-        self.salt = Some(given.bytes);
+        self.salt = Some(salt_in(word).ok_or(BadWord::BadSalt(word))?);
         Ok(())
     }
 }

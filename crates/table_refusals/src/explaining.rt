@@ -17,10 +17,10 @@ fn body_length(kind: u8) -> usize {
     }
 }
 
-// What stands behind the text of a line with a place in it.
-fn put_end(line: &mut Words, salt: Option<&[u8]>) {
+// What stands at the end of a line with a place in it.
+fn put_end(line: &mut Words, refused: &Refused) {
     line.text(b"; places count from 0, the table's first byte");
-    if salt.is_some() {
+    if refused.salt.is_some() {
         line.text(b", and not from the salt");
     }
     line.text(b"\n");
@@ -31,27 +31,48 @@ fn put_bad_length(line: &mut Words, salt: &[u8]) {
     line.text(b" bytes and not 16\n");
 }
 
-fn put_unknown(line: &mut Words, place: usize, kind: u8) {
-    line.text(b"the kind byte at place ").decimal(place as u64);
-    line.text(b" is ").hex(&[kind]).text(b", which no record has");
+fn put_long(line: &mut Words) {
+    line.text(b"the table is over 4096 bytes\n");
 }
 
-fn put_cut_short(line: &mut Words, place: usize, kind: u8, there: usize) {
+fn put_unknown(line: &mut Words, place: usize, kind: u8, refused: &Refused) {
+    line.text(b"the kind byte at place ").decimal(place as u64);
+    line.text(b" is ")
+        .hex(&[kind])
+        .text(b", which no record has");
+    put_end(line, refused);
+}
+
+fn put_cut_short(line: &mut Words, place: usize, kind: u8, there: usize, refused: &Refused) {
     line.text(b"the record at place ").decimal(place as u64);
     line.text(b", of kind ").hex(&[kind]);
-    line.text(b", is cut short: its body has ").decimal(body_length(kind) as u64);
-    line.text(b" bytes, and the table ends after ").decimal(there as u64).text(b" of them");
+    line.text(b", is cut short: its body has ")
+        .decimal(body_length(kind) as u64);
+    line.text(b" bytes, and the table ends after ")
+        .decimal(there as u64);
+    line.text(b" of them");
+    put_end(line, refused);
 }
 
-// The kind byte of the record that is refused, and what the table has behind it.
+// The line of a refusal that reading a whole table meets, and nothing for any other.
 fn put_refusal(line: &mut Words, refused: &Refused) {
-    let Refused { refusal, table, salt } = *refused;
-    match (refusal, table.get(refusal.place())) {
-        (Refusal::BadSalt, _) => put_bad_length(line, salt),
-        (Refusal::LongTable, _) => line.text(b"the table is over 4096 bytes\n"),
-        (Refusal::UnknownKind { place }, Some(kind)) => put_unknown(line, place, *kind, salt),
-        (Refusal::CutShort { place }, Some(kind)) => put_cut_short(line, place, *kind, table.len() - place - 1, salt),
-        _ => {},
+    let table = refused.table;
+    match (
+        refused.refusal,
+        refused.salt,
+        table.get(refused.refusal.place()),
+    ) {
+        (Refusal::BadSalt, Some(salt), _) => put_bad_length(line, salt),
+        (Refusal::LongTable, _, _) => put_long(line),
+        (Refusal::UnknownKind { place }, _, Some(kind)) => put_unknown(line, place, *kind, refused),
+        (Refusal::CutShort { place }, _, Some(kind)) => put_cut_short(
+            line,
+            place,
+            *kind,
+            table.len() - place - 1,
+            refused,
+        ),
+        _ => {}
     }
 }
 

@@ -1,10 +1,10 @@
 -- Pairs of hex digits. Assumes nothing.
-use Rattle.std.specs.Prelude.{ℕ, ◌+◌, ◌*◌, Bool, true, false, cond, ◌&&◌, List, [], ◌∷◌, leb, ltb}
+use Rattle.std.specs.Prelude.{ℕ, ◌+◌, ◌*◌, Bool, true, false, cond, ◌&&◌, List, [], ◌∷◌, leb, ltb, unwrap_or}
 use Rattle.digits.specs.Hexadecimal.{nibble_of}
 
 -- the value of a digit, `0` to `9` or `a` to `f`, and 16 for any other byte: capitals are none
 unfoldable pub value_of : ℕ → ℕ
-value_of x = cond (leb x 57) (nibble_of x) (cond (ltb x 97) 16 (nibble_of x))
+value_of x = cond (leb x 57) (unwrap_or (nibble_of x) 16) (cond (ltb x 97) 16 (unwrap_or (nibble_of x) 16))
 
 -- whether a text is pairs of digits, and nothing else
 unfoldable pub is_hex : List ℕ → Bool

@@ -1,9 +1,8 @@
 -- What a line of a listing says, without its line end. Assumes nothing.
 use Rattle.std.specs.Prelude.{ℕ, suc, ◌+◌, ◌-◌, Bool, true, false, cond, ◌&&◌, List, [], ◌∷◌, ◌++◌, eqb, leb, ltb, drop, get_or, length, take}
 use Rattle.lines.specs.Decimal.{decimal_of}
+use Rattle.steering.specs.Answers.{End, Found, Reading, Refused}
 use Rattle.steering.specs.Reading.{read_at}
-use Rattle.steering.specs.declared.reading.Reading.{Reading}
-use Rattle.steering.specs.declared.reading.Reading.TheVariants.{End, Found, Refused}
 use Rattle.write_table.specs.declared.line.Line.{Line}
 use Rattle.write_table.specs.declared.line.Line.TheVariants.{Count, Record, Unreadable}
 use Rattle.write_table.specs.Hexadecimal.{is_hex, pairs_of}

@@ -1,44 +1,25 @@
 // Hex digits as the lister prints them.
-ghost use Rattle.std.specs.Prelude.{◌+◌, ◌/◌, ◌<◌, ◌≤◌, MatchOption, true, ◌≡◌, length};
-ghost use Rattle.std.proofs.lemmas.List.Edits.{sets};
-ghost use Rattle.digits.specs.Hexadecimal.{nibble_of};
-ghost use Rattle.write_table.specs.Hexadecimal.{is_hex, pairs_of, value_of};
+ghost use Rattle.std.specs.Prelude.{◌*◌, ◌/◌, ◌<◌, ◌≡◌, ◌≤◌, MatchOption, length, not, take, true};
+ghost use Rattle.std.specs.Char.{is_ascii_uppercase};
+ghost use Rattle.std.specs.List.{list_all};
+ghost use Rattle.write_table.specs.Hexadecimal.{is_hex, pairs_of};
 
-use digits::nibble;
+use digits::bytes_in;
 
-fn either_case(digit: u8) -> Option<u8>
-    ensures { MatchOption result (15 < nibble_of digit) (λ v. (v ≡ nibble_of digit) × (v ≤ 15)) }
+// Whether there is no capital.
+fn is_small(text: &[u8]) -> bool
+    ensures { result ≡ list_all (λ x. not (is_ascii_uppercase x)) text.now }
 {
-    let value = nibble(digit);
-    if value < 16 { Some(value) } else { None }
+    text.iter().all(|byte| !byte.is_ascii_uppercase())
 }
 
-// The value of a digit. Capitals are none: the lister prints small letters.
-fn value(digit: u8) -> Option<u8>
-    ensures { MatchOption result (15 < value_of digit) (λ v. (v ≡ value_of digit) × (v ≤ 15)) }
+// The bytes of at most N pairs of digits, with zeros behind them. Capitals are no digits: the lister prints small letters.
+pub(crate) fn pairs_in<const N: usize>(text: &[u8]) -> Option<[u8; N]>
+    ensures { MatchOption result (is_hex text.now ≡ true → 2 * N < length text.now)
+        (λ bytes. (is_hex text.now ≡ true) × (length text.now ≤ 2 * N) × (take (length text.now / 2) bytes ≡ pairs_of text.now)) }
 {
-    if digit <= b'9' {
-        return either_case(digit);
-    }
-    if digit < b'a' {
+    if !is_small(text) {
         return None;
     }
-    either_case(digit)
-}
-
-// Puts the bytes of pairs of digits into the room, from a place on, and answers whether the text is such pairs and nothing else. Where it is not, what
-// was put there means nothing.
-pub(crate) fn pairs_in(text: &[u8], room: &mut [u8], from: usize) -> bool
-    requires { from + length text.now / 2 ≤ length room.old }
-    ensures good { result ≡ is_hex text.now }
-    ensures left { result ≡ true → room.new ≡ sets room.old from (pairs_of text.now) }
-{
-    let pairs = text.len() / 2;
-    for i in 0..pairs {
-        let (Some(high), Some(low)) = (value(text[2 * i]), value(text[2 * i + 1])) else {
-            return false;
-        };
-        room[from + i] = 16 * high + low;
-    }
-    2 * pairs == text.len()
+    bytes_in(text)
 }

@@ -4,12 +4,12 @@
 //     records N                        the end: the number of the records before it
 //
 // A line is without its line end here. The place may be any digits, and is not looked at.
-ghost use Rattle.std.specs.Prelude.{◌≡◌, ◌+◌, ◌≤◌, length};
+ghost use Rattle.std.specs.Prelude.{◌≡◌, ◌+◌, ◌≤◌, length, not, position};
+ghost use Rattle.std.specs.Char.{is_ascii_digit};
 ghost use Rattle.write_table.specs.Line.{alone, count_line, digits_in, is_framed, line_of, record_behind, record_in, same_of};
 
 use super::hexadecimal::pairs_in;
-use lines::{put, put_decimal};
-use steering::{Reading, Record};
+use steering::Record;
 
 #[derive(Clone, Copy)]
 pub(crate) enum Line {
@@ -19,57 +19,38 @@ pub(crate) enum Line {
     Unreadable,
 }
 
+// The place of the first byte that is no decimal digit.
+fn first_other(line: &[u8]) -> Option<usize>
+    ensures { result ≡ position (λ x. not (is_ascii_digit x)) line.now }
+{
+    line.iter().position(|byte| !byte.is_ascii_digit())
+}
+
 // How many bytes at the front are decimal digits.
 fn digits_in(line: &[u8]) -> usize
     ensures count { result ≡ digits_in line.now }
     ensures within { result ≤ length line.now }
 {
-    for i in 0..line.len() {
-        let digit = line[i];
-        if digit < b'0' {
-            return i;
-        }
-        if b'9' < digit {
-            return i;
-        }
-    }
-    line.len()
+    first_other(line).unwrap_or(line.len())
 }
 
 // Whether a space, two bytes and a space stand behind the digits, of which there is at least one.
+#[tactic(auto, unfolding(crate::specs::Line::is_framed))]
 fn is_framed(line: &[u8], at: usize) -> bool
     requires { at ≤ length line.now }
     ensures { result ≡ is_framed line.now at }
 {
-    if at == 0 {
-        return false;
-    }
-    if line.len() - at < 4 {
-        return false;
-    }
-    if line[at] != b' ' {
-        return false;
-    }
-    line[at + 3] == b' '
+    at != 0 && 4 <= line.len() - at && line[at] == b' ' && line[at + 3] == b' '
 }
 
 // The record that these bytes are, all of them.
+#[tactic(auto, unfolding(crate::specs::Line::alone))]
 fn record_of(bytes: &[u8]) -> Line
     ensures { result ≡ alone bytes.now }
 {
     match steering::read_at(bytes, 0) {
-        Reading::Found { record, next } => {
-            if next == bytes.len() {
-                Line::Record(record)
-            } else {
-                Line::Unreadable
-            }
-        }
-        Reading::End => Line::Unreadable,
-        Reading::Refused {
-            number: _,
-            place: _,
-        } => Line::Unreadable,
+        Ok(Some((record, next))) if next == bytes.len() => Line::Record(record),
+        _ => Line::Unreadable,
     }
 }
 
@@ -78,25 +59,21 @@ fn record_behind(line: &[u8], at: usize) -> Line
     requires { at + 4 ≤ length line.now }
     ensures { result ≡ record_behind line.now at }
 {
-    let all = line.len();
     let kind = at + 1;
     let body = at + 4;
-    if 64 < all - body {
+    let Some(first) = pairs_in::<1>(&line[kind..kind + 2]) else {
         return Line::Unreadable;
-    }
-    let mut bytes = [0u8; 33];
-    let behind = kind + 2;
-    if !pairs_in(&line[kind..behind], &mut bytes, 0) {
+    };
+    let Some(rest) = pairs_in::<32>(&line[body..]) else {
         return Line::Unreadable;
-    }
-    if !pairs_in(&line[body..all], &mut bytes, 1) {
-        return Line::Unreadable;
-    }
-    let size = 1 + (all - body) / 2;
-    record_of(&bytes[0..size])
+    };
+    let mut bytes = [first[0]; 33];
+    bytes[1..].copy_from_slice(&rest);
+    record_of(&bytes[..1 + (line.len() - body) / 2])
 }
 
 // The record of a line that has a place in front of it.
+#[tactic(auto, using(crate::proofs::Laws::Line::framed_long), unfolding(crate::specs::Line::record_in))]
 fn record_in(line: &[u8]) -> Line
     ensures { result ≡ record_in line.now }
 {
@@ -117,13 +94,13 @@ fn is_same(a: &[u8], b: &[u8]) -> bool
 fn is_count(line: &[u8], count: usize) -> bool
     ensures { result ≡ same_of line.now (count_line count) }
 {
-    let mut right = [0u8; 28];
-    let named = put(&mut right, 0, b"records ");
-    let end = put_decimal(&mut right, named, count as u64);
-    is_same(line, &right[0..end])
+    let mut right = lines::Line::<28>::new();
+    right.text(b"records ").decimal(count as u64);
+    is_same(line, right.bytes())
 }
 
 // What a line says behind so many records.
+#[tactic(auto, unfolding(crate::specs::Line::line_of))]
 pub(crate) fn line_in(line: &[u8], count: usize) -> Line
     ensures { result ≡ line_of count line.now }
 {

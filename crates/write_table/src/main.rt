@@ -11,7 +11,7 @@ ghost use Rattle.std.specs.Prelude.{◌≤◌, length};
 
 use command::{Asked, Failed, give_verdict};
 use help::{HELP, PROGRAM};
-use lines::{put, put_decimal};
+use lines::Line;
 use options::Options;
 use text::{BadLine, table_in};
 
@@ -19,11 +19,11 @@ use text::{BadLine, table_in};
 const LONGEST: usize = 65536;
 
 fn print_bad_line(rt: &HostRuntime, bad: BadLine) -> Result<(), Failed> {
-    let mut line = [0u8; 64];
-    let named = put(&mut line, 0, b"bad line ");
-    let numbered = put_decimal(&mut line, named, bad.number as u64);
-    let end = put(&mut line, numbered, b"\n");
-    PROGRAM.print(rt, &line[..end])
+    let mut line = Line::<64>::new();
+    line.text(b"bad line ")
+        .decimal(bad.number as u64)
+        .text(b"\n");
+    PROGRAM.print(rt, line.bytes())
 }
 
 // The table of a text, all at once. That a line is bad is a failure, which is printed.

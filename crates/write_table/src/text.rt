@@ -28,21 +28,21 @@ fn take_record(given: Record, count: usize, size: usize, room: &mut [u8]) -> Res
     ensures step { result ≡ step_of (Line.Record given) count size false }
     ensures left { room.new ≡ step_leaves (Line.Record given) size room.old }
 {
-    let written = steering::write_at(room, size, given);
-    if written.refusal != 0 {
-        return Err(BadLine { number: count + 1 });
+    match steering::write_at(room, size, given) {
+        Ok(longer) => Ok(Step::More(longer)),
+        Err(_) => Err(BadLine { number: count + 1 }),
     }
-    Ok(Step::More(written.next))
 }
 
 fn take_count(count: usize, size: usize, is_last: bool) -> Result<Step, BadLine>
     requires { count ≤ 65536 }
     ensures { result ≡ step_of Line.Count count size is_last }
 {
-    if !is_last {
-        return Err(BadLine { number: count + 2 });
+    if is_last {
+        Ok(Step::Over(size))
+    } else {
+        Err(BadLine { number: count + 2 })
     }
-    Ok(Step::Over(size))
 }
 
 // One line, behind so many records in so many bytes of the room.
@@ -68,10 +68,7 @@ fn take_line(
 fn is_end(place: usize, size: usize, goes_on: bool) -> bool
     ensures { result ≡ cond goes_on false (eqb place size) }
 {
-    if goes_on {
-        return false;
-    }
-    place == size
+    !goes_on && place == size
 }
 
 // Puts the table of a text at the front of the room, which has 4,096 bytes, and answers its size; or answers the first bad line. `goes_on` tells whether the

@@ -1,32 +1,96 @@
 -- Pairs of hex digits, one at a time. Assumes nothing.
 use mathlib.Core.Path.{◌≡◌, ◌∙◌, ap, refl, sym}
-use mathlib.Core.Bool.{Bool, true, false, cond, true≢false, ◌&&◌}
-use mathlib.Core.List.{List, [], ◌∷◌, ◌++◌}
-use Prim.Native.Nat.{ℕ, zero, suc, ◌+◌, ◌*◌, ◌/◌, ◌<◌, ◌≤◌}
-use native.Mathlib.Numerals.{add-one}
+use mathlib.Core.Bool.{Bool, true, false, cond, not, true≢false, ◌&&◌}
+use mathlib.Core.List.{List, [], ◌∷◌, ◌++◌, append_assoc, append-nil}
+use Prim.Native.Nat.{ℕ, zero, suc, ◌+◌, ◌*◌, ◌-◌, ◌/◌, ◌<◌, ◌≤◌}
 use native.Mathlib.Omega.{arith}
-use borrow.Author.Tests.{eqb-false, eqb-true, le-leb, le-ltb, leb-true, lt-leb, lt-ltb}
-use lib.Dec.{eqb, leb}
-use lib.ListN.{drop, get_or, length, set}
-use lib.Seq.{drop-cons, drop-length, sets}
-use Rattle.digits.specs.Hexadecimal.{nibble_of}
+use borrow.Author.Tests.{le-leb, le-ltb, leb-false, leb-true, lt-leb, lt-ltb}
+use lib.Dec.{leb}
+use lib.ListN.{drop, length, replicate, take}
+use lib.Seq.{take_at}
+use Rattle.std.specs.Prelude.{All, Decides, MatchOption, None, Option, Some, unwrap_or}
+use Rattle.std.specs.Char.{is_ascii_uppercase}
+use Rattle.std.specs.List.{list_all}
+use Rattle.std.specs.Option.{option_and_then}
+use Rattle.std.proofs.lemmas.Bool.Decides.{Decides-by_and, same_from_decides}
+use Rattle.digits.specs.Hexadecimal.{byte_of, bytes_from, bytes_of, nibble_of}
 use Rattle.steering.specs.Numbers.{AreBytes}
 use Rattle.write_table.specs.Hexadecimal.{is_hex, pairs_of, value_of}
 
--- ---- the value of a digit
+pub by : {A : Type 0} (t : Bool) → (t ≡ true → A) → (t ≡ false → A) → A
+by true f g = f refl
+by false f g = g refl
 
-module _ (x n : ℕ) where
-  pub decimal : x ≤ 57 → n ≡ nibble_of x → n ≡ value_of x
+-- ---- the value of a digit: where it is no capital, what the library says
+
+abbrev pub is_small : ℕ → Bool
+is_small x = not (is_ascii_uppercase x)
+
+module _ (x : ℕ) where
+  pub value_front : x ≤ 57 → value_of x ≡ unwrap_or (nibble_of x) 16
   unfolding value_of
-  decimal h e = e ∙ simp (le-leb x 57 h)
+  value_front h = simp (le-leb x 57 h)
 
-  pub small : 57 < x → 97 ≤ x → n ≡ nibble_of x → n ≡ value_of x
+  value_between : 57 < x → x < 97 → value_of x ≡ 16
   unfolding value_of
-  small h g e = e ∙ simp (lt-leb x 57 h, le-ltb x 97 g)
+  value_between h g = simp (lt-leb x 57 h, lt-ltb x 97 g)
 
-pub between : (x : ℕ) → 57 < x → x < 97 → 16 ≡ value_of x
-unfolding value_of
-between x h g = simp (lt-leb x 57 h, lt-ltb x 97 g)
+  pub value_behind : 97 ≤ x → value_of x ≡ unwrap_or (nibble_of x) 16
+  unfolding value_of
+  value_behind g = simp (lt-leb x 57 (omega arith), le-ltb x 97 g)
+
+  some : (v : ℕ) → nibble_of x ≡ Some v → v ≤ 15 → value_of x ≡ unwrap_or (nibble_of x) 16
+      → nibble_of x ≡ cond (leb (value_of x) 15) (Some (value_of x)) None
+  some v n h e = let k : value_of x ≡ v = e ∙ rw n in rw (n, k) (simp (le-leb v 15 h))
+
+  none : nibble_of x ≡ None → value_of x ≡ 16 → nibble_of x ≡ cond (leb (value_of x) 15) (Some (value_of x)) None
+  none n e = rw (n, e)
+
+  between : 57 < x → x < 97 → is_small x ≡ true → nibble_of x ≡ None
+  unfolding nibble_of
+  between h g s =
+      by (leb 65 x)
+      (λ p.
+      by (leb x 90)
+      (λ q. absurd (true≢false (sym s ∙ simp (p, q))))
+      (λ q. simp (le-leb 48 x (omega arith), lt-leb x 57 h, p, lt-leb x 70 (omega (arith, leb-false x 90 q)), lt-leb 97 x g)))
+      (λ p. simp (le-leb 48 x (omega arith), lt-leb x 57 h, p, lt-leb 97 x g))
+
+  pub value_is : is_small x ≡ true → nibble_of x ≡ cond (leb (value_of x) 15) (Some (value_of x)) None
+  unfolding nibble_of
+  value_is s =
+      by (leb x 57)
+      (λ p.
+      let e = value_front (leb-true x 57 p) in
+      by (leb 48 x)
+      (λ q. some (x - 48) (simp (p, q)) (omega (arith, leb-true x 57 p)) e)
+      (λ q.
+      let n : nibble_of x ≡ None = simp (q, lt-leb 65 x (omega (arith, leb-true x 57 p)), lt-leb 97 x (omega (arith, leb-true x 57 p))) in
+      none n (e ∙ rw n)))
+      (λ p.
+      by (leb 97 x)
+      (λ q.
+      let g = leb-true 97 x q in
+      let e = value_behind g in
+      let low = le-leb 48 x (omega (arith, g)) in
+      let from_a = le-leb 65 x (omega (arith, g)) in
+      let to_f = lt-leb x 70 (omega (arith, g)) in
+      by (leb x 102)
+      (λ r. some (x - 97 + 10) (simp (p, low, from_a, to_f, q, r)) (omega (arith, g, leb-true x 102 r)) e)
+      (λ r. let n : nibble_of x ≡ None = simp (p, low, from_a, to_f, q, r) in none n (e ∙ rw n)))
+      (λ q.
+      let h = leb-false x 57 p in
+      let g = leb-false 97 x q in
+      none (between h g s) (value_between h g)))
+
+  pub small : value_of x ≤ 15 → is_small x ≡ true
+  small v =
+      by (leb x 57)
+      (λ p. simp (lt-leb 65 x (omega (arith, leb-true x 57 p))))
+      (λ p.
+      by (leb 97 x)
+      (λ q. simp (le-leb 65 x (omega (arith, leb-true 97 x q)), lt-leb x 90 (omega (arith, leb-true 97 x q))))
+      (λ q. absurd (omega (arith, v, value_between (leb-false x 57 p) (leb-false 97 x q)))))
 
 -- ---- pairs
 
@@ -34,68 +98,56 @@ pub hex_more : (x y : ℕ) (rest : List ℕ) → value_of x ≤ 15 → value_of 
 unfolding is_hex
 hex_more x y rest h g = simp (le-leb (value_of x) 15 h, le-leb (value_of y) 15 g)
 
-pub hex_no_high : (x y : ℕ) (rest : List ℕ) → 15 < value_of x → is_hex (x ∷ y ∷ rest) ≡ false
+-- what is said of two digits and of what follows them, where a text is pairs of digits
+two_digits : (x y : ℕ) (rest : List ℕ) → is_hex (x ∷ y ∷ rest) ≡ true → (value_of x ≤ 15) × (value_of y ≤ 15) × (is_hex rest ≡ true)
 unfolding is_hex
-hex_no_high x y rest h = simp (lt-leb (value_of x) 15 h)
+two_digits x y rest t = go (leb (value_of x) 15) (leb (value_of y) 15) refl refl
+  where
+    go : (a b : Bool) → leb (value_of x) 15 ≡ a → leb (value_of y) 15 ≡ b → (value_of x ≤ 15) × (value_of y ≤ 15) × (is_hex rest ≡ true)
+    go true true p q = (leb-true (value_of x) 15 p, leb-true (value_of y) 15 q, sym (rw (p, q)) ∙ t)
+    go true false p q = absurd (true≢false (sym t ∙ rw (p, q)))
+    go false b p q = absurd (true≢false (sym t ∙ rw p))
 
-pub hex_no_low : (x y : ℕ) (rest : List ℕ) → value_of x ≤ 15 → 15 < value_of y → is_hex (x ∷ y ∷ rest) ≡ false
+-- the byte of a pair
+byte_is : (x y : ℕ) → is_small x ≡ true → is_small y ≡ true
+    → byte_of x y ≡ cond (leb (value_of x) 15 && leb (value_of y) 15) (Some (16 * value_of x + value_of y)) None
+unfolding byte_of
+byte_is x y h g =
+    rw (value_is x h, value_is y g)
+    (by (leb (value_of x) 15) (λ p. by (leb (value_of y) 15) (λ q. rw (p, q)) (λ q. rw (p, q))) (λ p. rw p))
+
+-- what holds of two in front, and of the rest
+front_two : (a b c : Bool) → (a && (b && c)) ≡ true → (a ≡ true) × (b ≡ true) × (c ≡ true)
+front_two true true c h = (refl, refl, h)
+front_two true false c h = absurd (true≢false (sym h))
+front_two false b c h = absurd (true≢false (sym h))
+
+bytes_small : (bytes text : List ℕ) → list_all is_small text ≡ true → bytes_from bytes text ≡ cond (is_hex text) (Some (bytes ++ pairs_of text)) None
+unfolding bytes_from is_hex pairs_of
+bytes_small bytes [] h = ap Some (sym (append-nil bytes))
+bytes_small bytes (x ∷ []) h = refl
+bytes_small bytes (x ∷ y ∷ rest) h =
+    let S = front_two (is_small x) (is_small y) (list_all is_small rest) h in
+    let byte = 16 * value_of x + value_of y in
+    let again = bytes_small (bytes ++ (byte ∷ [])) rest S.2 in
+    let behind = append_assoc bytes (byte ∷ []) (pairs_of rest) in
+    rw (byte_is x y S.0 S.1)
+    (by (leb (value_of x) 15 && leb (value_of y) 15)
+    (λ p. rw p (again ∙ ap (λ (u : List ℕ). cond (is_hex rest) (Some u) None) behind))
+    (λ p. rw p))
+
+-- no capital stands among the digits
+hex_small : (text : List ℕ) → is_hex text ≡ true → list_all is_small text ≡ true
 unfolding is_hex
-hex_no_low x y rest h g = simp (le-leb (value_of x) 15 h, lt-leb (value_of y) 15 g)
+hex_small [] h = refl
+hex_small (x ∷ []) h = absurd (true≢false (sym h))
+hex_small (x ∷ y ∷ rest) h =
+    let T = two_digits x y rest h in rw (small x T.0, small y T.1) (hex_small rest T.2)
 
--- the pair i of a text, behind those that went well, and the room that they were put into
-module _ (text : List ℕ) (i : ℕ) (so_far : is_hex text ≡ is_hex (drop (2 * i) text)) (pairs : ℕ) (p : pairs ≡ length text / 2) where
-  module _ (h : i < pairs) (a b : ℕ) (e : a ≡ value_of (get_or text (2 * i) 0)) (f : b ≡ value_of (get_or text (2 * i + 1) 0)) where
-    pair : drop (2 * i) text ≡ get_or text (2 * i) 0 ∷ get_or text (2 * i + 1) 0 ∷ drop (2 * (i + 1)) text
-    pair =
-        let g : 2 * i < length text = omega arith in
-        let g2 : 2 * i + 1 < length text = omega arith in
-        let two : 2 * (i + 1) ≡ suc (2 * i + 1) = omega arith in
-        rw (drop-cons text (2 * i) 0 g, ← add-one (2 * i), drop-cons text (2 * i + 1) 0 g2, two)
-
-    pub no_high : 15 < a → false ≡ is_hex text
-    no_high m = sym (so_far ∙ rw pair (hex_no_high _ _ (drop (2 * (i + 1)) text) (omega (arith, e))))
-
-    pub no_low : a ≤ 15 → 15 < b → false ≡ is_hex text
-    no_low m n = sym (so_far ∙ rw pair (hex_no_low _ _ (drop (2 * (i + 1)) text) (omega (arith, e)) (omega (arith, f))))
-
-    pub goes_on : a ≤ 15 → b ≤ 15 → is_hex text ≡ is_hex (drop (2 * (i + 1)) text)
-    goes_on m n = so_far ∙ rw pair (hex_more _ _ (drop (2 * (i + 1)) text) (omega (arith, e)) (omega (arith, f)))
-
-    pub put_more : (all room : List ℕ) (from : ℕ) → all ≡ sets room (from + i) (pairs_of (drop (2 * i) text))
-        → all ≡ sets (set room (from + i) (16 * a + b)) (from + (i + 1)) (pairs_of (drop (2 * (i + 1)) text))
-    unfolding pairs_of
-    put_more all room from q =
-        q ∙ rw (pair, ← e, ← f) (ap (λ (k : ℕ). sets (set room (from + i) (16 * a + b)) k (pairs_of (drop (2 * (i + 1)) text))) (omega arith))
-
-  module _ (l : i ≤ pairs) (g : pairs ≤ i) where
-    -- what is left: nothing, or one digit
-    left_over : (2 * pairs ≡ length text → ⊥) → drop (2 * i) text ≡ get_or text (2 * i) 0 ∷ []
-    left_over n =
-        let k : 2 * i < length text = omega arith in
-        let end : suc (2 * i) ≡ length text = omega arith in
-        rw (drop-cons text (2 * i) 0 k, end, drop-length text)
-
-    none_left : 2 * pairs ≡ length text → drop (2 * i) text ≡ []
-    none_left z = let end : 2 * i ≡ length text = omega arith in rw (end, drop-length text)
-
-    pub all_pairs : eqb (2 * pairs) (length text) ≡ is_hex text
-    unfolding is_hex
-    all_pairs = by (eqb (2 * pairs) (length text)) refl
-      where
-        by : (t : Bool) → eqb (2 * pairs) (length text) ≡ t → eqb (2 * pairs) (length text) ≡ is_hex text
-        by true q = q ∙ sym (so_far ∙ ap is_hex (none_left (eqb-true (2 * pairs) (length text) q)))
-        by false q = q ∙ sym (so_far ∙ ap is_hex (left_over (eqb-false (2 * pairs) (length text) q)))
-
-    pub all_put : (all room : List ℕ) (from : ℕ) → all ≡ sets room (from + i) (pairs_of (drop (2 * i) text)) → room ≡ all
-    unfolding pairs_of
-    all_put all room from q = by (eqb (2 * pairs) (length text)) refl
-      where
-        by : (t : Bool) → eqb (2 * pairs) (length text) ≡ t → room ≡ all
-        by true r = sym (q ∙ ap (λ (u : List ℕ). sets room (from + i) (pairs_of u)) (none_left (eqb-true (2 * pairs) (length text) r)))
-        by false r = sym (q ∙ ap (λ (u : List ℕ). sets room (from + i) (pairs_of u)) (left_over (eqb-false (2 * pairs) (length text) r)))
-
-pub start : (text all room : List ℕ) (from : ℕ) → all ≡ sets room from (pairs_of text) → all ≡ sets room (from + 0) (pairs_of (drop (2 * 0) text))
-start text all room from q = q ∙ ap (λ (k : ℕ). sets room k (pairs_of text)) (omega arith)
+pub small_each : (text : List ℕ) (r : Bool) → Decides r (All (λ x. is_small x ≡ true) text) → r ≡ list_all is_small text
+small_each text r d =
+    same_from_decides r (list_all is_small text) d
+    (Decides-by_and is_small (λ x. is_small x ≡ true) (list_all is_small) (λ x. ((λ e. e), (λ e. e))) refl (λ x xs. refl) text)
 
 -- ---- two digits in front
 
@@ -130,16 +182,6 @@ length_pairs [] = omega arith
 length_pairs (x ∷ []) = omega arith
 length_pairs (x ∷ y ∷ rest) = omega (arith, length_pairs rest)
 
--- what is said of two digits and of what follows them, where a text is pairs of digits
-two_digits : (x y : ℕ) (rest : List ℕ) → is_hex (x ∷ y ∷ rest) ≡ true → (value_of x ≤ 15) × (value_of y ≤ 15) × (is_hex rest ≡ true)
-unfolding is_hex
-two_digits x y rest t = by (leb (value_of x) 15) (leb (value_of y) 15) refl refl
-  where
-    by : (a b : Bool) → leb (value_of x) 15 ≡ a → leb (value_of y) 15 ≡ b → (value_of x ≤ 15) × (value_of y ≤ 15) × (is_hex rest ≡ true)
-    by true true p q = (leb-true (value_of x) 15 p, leb-true (value_of y) 15 q, sym (rw (p, q)) ∙ t)
-    by true false p q = absurd (true≢false (sym t ∙ rw (p, q)))
-    by false b p q = absurd (true≢false (sym t ∙ rw p))
-
 -- they are as many as twice the bytes
 pub hex_even : (text : List ℕ) → is_hex text ≡ true → 2 * length (pairs_of text) ≡ length text
 unfolding is_hex pairs_of
@@ -154,3 +196,29 @@ pairs_bytes [] t k = omega arith
 pairs_bytes (x ∷ []) t k = absurd (true≢false (sym t))
 pairs_bytes (x ∷ y ∷ rest) t zero = let T = two_digits x y rest t in omega (arith, T.0, T.1)
 pairs_bytes (x ∷ y ∷ rest) t (suc k) = pairs_bytes rest (two_digits x y rest t).2 k
+
+-- ---- what is made of a text
+
+module _ (n : ℕ) (text : List ℕ) where
+  abbrev pub Answers : Option (List ℕ) → Type 0
+  Answers o =
+      MatchOption o (is_hex text ≡ true → 2 * n < length text)
+      (λ bytes. (is_hex text ≡ true) × (length text ≤ 2 * n) × (take (length text / 2) bytes ≡ pairs_of text))
+
+  pub capitals : (t : Bool) → t ≡ list_all is_small text → t ≡ false → Answers None
+  capitals t e f h = absurd (true≢false (sym (hex_small text h) ∙ sym e ∙ f))
+
+  pub no_capitals : (t : Bool) → t ≡ list_all is_small text → t ≡ true → (o : Option (List ℕ)) → o ≡ bytes_of n text → Answers o
+  unfolding bytes_of
+  no_capitals t e y o q =
+      let is : o ≡ cond (leb (length text) (2 * n))
+      (option_and_then (λ bytes. Some (bytes ++ drop (length bytes) (replicate n 0))) (cond (is_hex text) (Some (pairs_of text)) None)) None =
+      q ∙ rw (bytes_small [] text (sym e ∙ y)) in
+      by (leb (length text) (2 * n))
+      (λ p.
+      by (is_hex text)
+      (λ h.
+      let k : o ≡ Some (pairs_of text ++ drop (length (pairs_of text)) (replicate n 0)) = is ∙ rw (p, h) in
+      rw k (h, leb-true (length text) (2 * n) p, take_at (pairs_of text) (drop (length (pairs_of text)) (replicate n 0)) (length text / 2) (length_pairs text)))
+      (λ h. let k : o ≡ None = is ∙ rw (p, h) in rw k (λ z. absurd (true≢false (sym z ∙ h)))))
+      (λ p. let k : o ≡ None = is ∙ rw p in rw k (λ z. leb-false (length text) (2 * n) p))

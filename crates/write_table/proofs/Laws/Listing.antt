@@ -38,10 +38,10 @@ value_of_digit v h = by (ltb v 10) refl
     by : (t : Bool) → ltb v 10 ≡ t → value_of (digit_of v) ≡ v
     by true p =
         let small = ltb-true v 10 p in
-        rw (p, le-leb (48 + v) 57 (omega arith)) (digits.digit (48 + v) (omega arith) (omega arith) ∙ omega arith)
+        rw (p, le-leb (48 + v) 57 (omega arith), digits.digit (48 + v) (omega arith) (omega arith)) (omega arith)
     by false p =
         let large = ltb-false v 10 p in
-        rw (p, lt-leb (87 + v) 57 (omega arith), le-ltb (87 + v) 97 (omega arith)) (digits.small (87 + v) (omega arith) (omega arith) ∙ omega arith)
+        rw (p, lt-leb (87 + v) 57 (omega arith), le-ltb (87 + v) 97 (omega arith), digits.small (87 + v) (omega arith) (omega arith)) (omega arith)
 
 -- the digits of bytes are pairs of digits, and their bytes are these
 pairs_of_bytes : (bytes : List ℕ) → AreBytes bytes → (is_hex (spread digits_of bytes) ≡ true) × (pairs_of (spread digits_of bytes) ≡ bytes)

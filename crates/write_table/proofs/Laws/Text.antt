@@ -11,13 +11,13 @@ use lib.ListN.{drop, get_or, length, length-append, length-drop, take}
 use lib.Seq.{drop-cons, drop-length, get_or-drop, length-take-le, take_at, take-suc}
 use Rattle.std.specs.Prelude.{Err, Ok}
 use Rattle.std.specs.declared.result.Result.{Result}
+use Rattle.steering.specs.Answers.{End, Found, Reading, Refused, Written, write_number}
 use Rattle.steering.specs.Reading.{read_at}
 use Rattle.steering.specs.Records.{Fits, body_of, kind_of}
 use Rattle.steering.specs.Writing.{put_at, write_answer, write_leaves}
-use Rattle.steering.specs.declared.reading.Reading.{Reading}
-use Rattle.steering.specs.declared.reading.Reading.TheVariants.{End, Found, Refused}
 use Rattle.steering.specs.declared.records.Record.{Record as TableRecord}
-use Rattle.steering.specs.declared.writing.Written.{Written}
+use Rattle.steering.specs.declared.refusals.WriteRefusal.{WriteRefusal}
+use Rattle.steering.specs.declared.refusals.WriteRefusal.TheVariants.{BodyLength, HighAddress, ShortRoom, UnknownKind}
 use Rattle.steering.proofs.Promises.{short_write}
 use Rattle.steering.proofs.Theorems.{a_record_is_what_stands_there, a_record_that_fits_is_written}
 use Rattle.write_table.specs.declared.line.Line.{Line}
@@ -29,7 +29,7 @@ use Rattle.write_table.specs.Hexadecimal.{is_hex, pairs_of}
 use Rattle.write_table.specs.Line.{alone, count_line, digits_in, hex_behind, is_framed, line_of, only_record, record_behind, record_in, same_of}
 use Rattle.write_table.specs.Step.{bad_at, step_leaves, step_of}
 use Rattle.write_table.specs.Text.{Text, bad_line, bytes_made, go_on, is_nil, made_of, text_from, text_of}
-use Rattle.write_table.proofs.Laws.Hexadecimal.{pairs_bytes}
+use Rattle.write_table.proofs.Laws.Hexadecimal.{by as either_case, pairs_bytes}
 
 -- ---- the record of a line fits its fields
 
@@ -64,6 +64,12 @@ line_fits count line x r e f = by (same_of line (count_line count)) (sym f ∙ e
 
 -- ---- one record
 
+numbered : (refusal : WriteRefusal) → write_number refusal ≡ 0 → ⊥
+numbered ShortRoom e = omega (arith, e)
+numbered UnknownKind e = omega (arith, e)
+numbered BodyLength e = omega (arith, e)
+numbered HighAddress e = omega (arith, e)
+
 module _ (r : TableRecord) (f : Fits r) (room : List ℕ) (l : length room ≡ 4096) (size : ℕ) where
   finds_room : leb (size + suc (length (body_of r))) 4096 ≡ true
       → (write_answer (length room) size r ≡ record { refusal = 0; next = size + suc (length (body_of r)) })
@@ -77,49 +83,33 @@ module _ (r : TableRecord) (f : Fits r) (room : List ℕ) (l : length room ≡ 4
       → (write_answer (length room) size r ≡ record { refusal = 5; next = 0 }) × (write_leaves room size r ≡ room)
   finds_none t = short_write room size r (omega (arith, l, leb-false (size + suc (length (body_of r))) 4096 t))
 
-  module _ (w : Written) (e : w ≡ write_answer (length room) size r) (count : ℕ) where
-    refusal_is : (v : Written) → write_answer (length room) size r ≡ v → w.refusal ≡ v.refusal
-    refusal_is v q = ap (λ (x : Written). x.refusal) (e ∙ q)
+  -- what the library wrote
+  module _ (next : ℕ) (e : ◌≡◌ {A = Written} (record { refusal = 0; next = next }) (write_answer (length room) size r)) where
+    some_room : leb (size + suc (length (body_of r))) 4096 ≡ true
+    some_room =
+        either_case (leb (size + suc (length (body_of r))) 4096)
+        (λ p. p)
+        (λ p. absurd (omega (arith, ap (λ (w : Written). w.refusal) (e ∙ (finds_none p).0))))
 
-    module _ (some : w.refusal ≡ 0 → ⊥) where
-      no_room : leb (size + suc (length (body_of r))) 4096 ≡ false
-      no_room = by (leb (size + suc (length (body_of r))) 4096) refl
-        where
-          by : (t : Bool) → leb (size + suc (length (body_of r))) 4096 ≡ t → leb (size + suc (length (body_of r))) 4096 ≡ false
-          by true p = absurd (some (refusal_is _ (finds_room p).0))
-          by false p = p
+    pub record_taken : (count : ℕ) → Ok (More next) ≡ step_of (Record r) count size false
+    record_taken count = rw some_room (ap (λ (w : Written). Ok (More w.next)) (e ∙ (finds_room some_room).0))
 
-      pub record_refused : bad_at (count + 1) ≡ step_of (Record r) count size false
-      record_refused = rw no_room
+    pub record_put : (after : List ℕ) → after ≡ write_leaves room size r → after ≡ step_leaves (Record r) size room
+    record_put after q = q ∙ (finds_room some_room).1 ∙ rw some_room
 
-      pub record_left : (after : List ℕ) → after ≡ write_leaves room size r → after ≡ step_leaves (Record r) size room
-      record_left after q = q ∙ (finds_none no_room).1 ∙ rw no_room
+  -- and what it refused
+  module _ (refusal : WriteRefusal) (e : ◌≡◌ {A = Written} (record { refusal = write_number refusal; next = 0 }) (write_answer (length room) size r)) where
+    no_room : leb (size + suc (length (body_of r))) 4096 ≡ false
+    no_room =
+        either_case (leb (size + suc (length (body_of r))) 4096)
+        (λ p. absurd (numbered refusal (ap (λ (w : Written). w.refusal) (e ∙ (finds_room p).0))))
+        (λ p. p)
 
-    module _ (none : w.refusal ≡ 0) where
-      some_room : leb (size + suc (length (body_of r))) 4096 ≡ true
-      some_room = by (leb (size + suc (length (body_of r))) 4096) refl
-        where
-          by : (t : Bool) → leb (size + suc (length (body_of r))) 4096 ≡ t → leb (size + suc (length (body_of r))) 4096 ≡ true
-          by true p = p
-          by false p = let z : ◌≡◌ {A = ℕ} 0 5 = sym none ∙ refusal_is _ (finds_none p).0 in absurd (omega arith)
+    pub record_refused : (count : ℕ) → bad_at (count + 1) ≡ step_of (Record r) count size false
+    record_refused count = rw no_room
 
-      pub record_taken : Ok (More w.next) ≡ step_of (Record r) count size false
-      record_taken = rw some_room (ap (λ (k : ℕ). Ok (More k)) (ap (λ (x : Written). x.next) (e ∙ (finds_room some_room).0)))
-
-      pub record_put : (after : List ℕ) → after ≡ write_leaves room size r → after ≡ step_leaves (Record r) size room
-      record_put after q = q ∙ (finds_room some_room).1 ∙ rw some_room
-
--- ---- the count
-
-module _ (count size : ℕ) (last : Bool) where
-  pub not_last : last ≡ false → bad_at (count + 2) ≡ step_of Count count size last
-  not_last n = rw n
-
-  pub at_last : last ≡ true → Ok (Over size) ≡ step_of Count count size last
-  at_last y = rw y
-
-pub not_going_on : (more : Bool) (place size : ℕ) → more ≡ false → eqb place size ≡ cond more false (eqb place size)
-not_going_on more place size n = rw n
+    pub record_left : (after : List ℕ) → after ≡ write_leaves room size r → after ≡ step_leaves (Record r) size room
+    record_left after q = q ∙ (finds_none no_room).1 ∙ rw no_room
 
 -- ---- one line
 

@@ -2,14 +2,14 @@
 use Rattle.write_table.proofs.Laws.Text.{record_left, record_put, record_refused, record_taken}
 use Rattle.write_table.proofs.text.take_record.Goals as goal
 
-pub returns-then-written-ne0-clause-step : goal.returns-then-written-ne0-clause-step
-returns-then-written-ne0-clause-step c = search record_refused
+pub returns-in-Ok-clause-step : goal.returns-in-Ok-clause-step
+returns-in-Ok-clause-step c = record_taken _ c.requires.fits _ c.requires.room_len.0 _ _ c.in-Ok.ensures.answer _
 
-pub returns-then-written-ne0-clause-left : goal.returns-then-written-ne0-clause-left
-returns-then-written-ne0-clause-left c = search record_left
+pub returns-in-Ok-clause-left : goal.returns-in-Ok-clause-left
+returns-in-Ok-clause-left c = record_put _ c.requires.fits _ c.requires.room_len.0 _ _ c.in-Ok.ensures.answer _ c.in-Ok.ensures.left
 
-pub returns-clause-step : goal.returns-clause-step
-returns-clause-step c = search record_taken
+pub returns-in-Err-clause-step : goal.returns-in-Err-clause-step
+returns-in-Err-clause-step c = record_refused _ c.requires.fits _ c.requires.room_len.0 _ _ c.in-Err.ensures.answer _
 
-pub returns-clause-left : goal.returns-clause-left
-returns-clause-left c = search record_put
+pub returns-in-Err-clause-left : goal.returns-in-Err-clause-left
+returns-in-Err-clause-left c = record_left _ c.requires.fits _ c.requires.room_len.0 _ _ c.in-Err.ensures.answer _ c.in-Err.ensures.left

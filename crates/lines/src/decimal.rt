@@ -1,9 +1,7 @@
 // Numbers in decimal.
 ghost use Rattle.std.specs.Prelude.{◌+◌, ◌%◌, ◌≡◌, ◌++◌, take};
 ghost use Rattle.lines.specs.Decimal.{decimal_of};
-ghost use Rattle.lines.specs.Lines.{Put};
 
-use super::bytes::put;
 use super::line::Line;
 
 // The last digit of a number.
@@ -32,20 +30,4 @@ impl<const N: usize> Line<N> {
         self.digits(number);
         self
     }
-}
-
-// The digits that a number needs, at least one. They are found from the last one on, and stand at the end of `digits`.
-pub fn put_decimal(room: &mut [u8], at: usize, number: u64) -> usize
-    ensures { Put room.old at (decimal_of number) room.new result }
-{
-    let mut digits = [0u8; 20];
-    digits[19] = last_digit(number);
-    let mut from = 19;
-    let mut rest = number / 10;
-    while 0 < rest {
-        from -= 1;
-        digits[from] = last_digit(rest);
-        rest /= 10;
-    }
-    put(room, at, &digits[from..20])
 }

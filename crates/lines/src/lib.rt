@@ -3,19 +3,10 @@
 //
 // A `Line` has a room of its own, and whoever puts a text into it is handed the line back, for the next text. What finds no place is dropped, so a
 // caller whose line is long enough need not ask.
-//
-// The routines `put` and `put_..` do the same in a room that the caller lends: each takes the room and a place in it, puts its text there and answers
-// the place behind it, or the room's end.
-mod bytes;
 mod decimal;
 mod hexadecimal;
 mod line;
 mod names;
 mod reasons;
 
-pub use bytes::put;
-pub use decimal::put_decimal;
-pub use hexadecimal::put_hex;
 pub use line::Line;
-pub use names::put_named;
-pub use reasons::put_reason;

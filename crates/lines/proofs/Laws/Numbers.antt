@@ -11,7 +11,6 @@ use mir.ValLaws.{to_z-of_z}
 use Rattle.std.specs.Int.{FitsUnsignedBits}
 use Rattle.std.specs.Prelude.{Err, Ok, Result}
 use Rattle.std.specs.Result.{OkIff, result_unwrap_or}
-use Rattle.lines.specs.Lines.{Put}
 use Rattle.lines.proofs.Laws.Texts.{put_on}
 use Rattle.lines.specs.Reasons.{number_of, reason_of}
 
@@ -33,7 +32,3 @@ module _ (z : ℤ) (f : SFits w32 z) where
       → next ≡ take size (line ++ text) → after ≡ take size (next ++ more) → after ≡ take size (line ++ reason_of (number_of z))
   reason_put size n line text more next after e r p q =
       rw (← to_z-of_z w32 z f, ← e, r) (put_on size line text more next after p q)
-
-  pub reason_of_lem : (n : ℕ) → n ≡ number_of (to_z w32 (of_z w32 z)) → (room : List ℕ) (at : ℕ) (after : List ℕ) (r : ℕ)
-      → Put room at (reason_of n) after r → Put room at (reason_of (number_of z)) after r
-  reason_of_lem n e room at after r p = rw (e, to_z-of_z w32 z f) at p

@@ -1,3 +1,4 @@
+-- `digits` meets its contract: a value below 16 has its digit in the table. Assumes nothing.
 use Rattle.std.proofs.Common.{◌≡◌, ◌<◌, ℕ, ◌∷◌, [], get_or, arith, ap₂, ◌/◌, ◌%◌}
 use Rattle.std.proofs.lemmas.Grind.{common_steps}
 use Rattle.lines.specs.Hexadecimal.{digit_of}

@@ -79,15 +79,14 @@ pub(crate) fn table_in(text: &[u8], goes_on: bool, room: &mut [u8]) -> Result<us
     ensures made { result ≡ made_of (text_of goes_on text.now) }
     ensures left { IfOk result (λ size. take size room.new ≡ bytes_made (text_of goes_on text.now)) }
 {
-    let n = text.len();
     let mut from = 0;
     let mut count = 0;
     let mut size = 0;
-    for i in 0..n {
-        if text[i] != b'\n' {
+    for (i, byte) in text.iter().enumerate() {
+        if *byte != b'\n' {
             continue;
         }
-        let is_last = is_end(i + 1, n, goes_on);
+        let is_last = is_end(i + 1, text.len(), goes_on);
         match take_line(&text[from..i], count, size, is_last, room)? {
             Step::More(longer) => size = longer,
             Step::Over(whole) => return Ok(whole),

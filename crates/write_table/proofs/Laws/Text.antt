@@ -221,10 +221,10 @@ either_way false false = refl
 
 -- before byte i, behind a line that began at `from`, count records and their bytes
 module _ (more : Bool) (text : List ℕ) (i from count : ℕ) (bytes : List ℕ)
-    (so_far : text_of more text ≡ text_from more (take (i - from) (drop from text)) count bytes (drop i text)) (n : ℕ) (l : n ≡ length text) where
-  module _ (h : i < n) where
+    (so_far : text_of more text ≡ text_from more (take (i - from) (drop from text)) count bytes (drop i text)) where
+  module _ (h : i < length text) where
     here : drop i text ≡ get_or text i 0 ∷ drop (i + 1) text
-    here = let g : i < length text = omega arith in drop-cons text i 0 g ∙ ap (λ (k : ℕ). get_or text i 0 ∷ drop k text) (sym (add-one i))
+    here = drop-cons text i 0 h ∙ ap (λ (k : ℕ). get_or text i 0 ∷ drop k text) (sym (add-one i))
 
     -- a byte of the line
     pub one_byte : from ≤ i → (get_or text i 0 ≡ 10 → ⊥)
@@ -233,7 +233,7 @@ module _ (more : Bool) (text : List ℕ) (i from count : ℕ) (bytes : List ℕ)
     one_byte b d = so_far ∙ rw (here, ne_eqb (get_or text i 0) 10 d) (ap (λ (u : List ℕ). text_from more u count bytes (drop (i + 1) text)) (sym longer_line))
       where
         inside : i - from < length (drop from text)
-        inside = omega (arith, h, b, l, length-drop from text)
+        inside = omega (arith, h, b, length-drop from text)
 
         byte : get_or (drop from text) (i - from) 0 ≡ get_or text i 0
         byte = let k : from + (i - from) ≡ i = omega (arith, b) in get_or-drop from text (i - from) 0 ∙ ap (λ (j : ℕ). get_or text j 0) k
@@ -246,20 +246,20 @@ module _ (more : Bool) (text : List ℕ) (i from count : ℕ) (bytes : List ℕ)
             ∙ ap (λ (x : ℕ). take (i - from) (drop from text) ++ (x ∷ [])) byte
 
     -- the line's end
-    module _ (e : get_or text i 0 ≡ 10) (last : Bool) (q : last ≡ cond more false (eqb (i + 1) n)) where
-      nothing_left : is_nil (drop (i + 1) text) ≡ eqb (i + 1) n
-      nothing_left = by (eqb (i + 1) n) refl
+    module _ (e : get_or text i 0 ≡ 10) (last : Bool) (q : last ≡ cond more false (eqb (i + 1) (length text))) where
+      nothing_left : is_nil (drop (i + 1) text) ≡ eqb (i + 1) (length text)
+      nothing_left = by (eqb (i + 1) (length text)) refl
         where
-          by : (t : Bool) → eqb (i + 1) n ≡ t → is_nil (drop (i + 1) text) ≡ eqb (i + 1) n
+          by : (t : Bool) → eqb (i + 1) (length text) ≡ t → is_nil (drop (i + 1) text) ≡ eqb (i + 1) (length text)
           by true p =
-              let end : i + 1 ≡ length text = eqb-true (i + 1) n p ∙ l in
+              let end : i + 1 ≡ length text = eqb-true (i + 1) (length text) p in
               ap (λ (k : ℕ). is_nil (drop k text)) end ∙ ap is_nil (drop-length text) ∙ sym p
           by false p =
-              let more_left : i + 1 < length text = omega (arith, h, l, eqb-false (i + 1) n p) in
+              let more_left : i + 1 < length text = omega (arith, h, eqb-false (i + 1) (length text) p) in
               ap is_nil (drop-cons text (i + 1) 0 more_left) ∙ sym p
 
       last_is : (is_nil (drop (i + 1) text) && not more) ≡ last
-      last_is = ap (λ (t : Bool). t && not more) nothing_left ∙ either_way more (eqb (i + 1) n) ∙ sym q
+      last_is = ap (λ (t : Bool). t && not more) nothing_left ∙ either_way more (eqb (i + 1) (length text)) ∙ sym q
 
       abbrev then : List ℕ → Text
       then longer = text_from more [] (count + 1) longer (drop (i + 1) text)
@@ -271,7 +271,7 @@ module _ (more : Bool) (text : List ℕ) (i from count : ℕ) (bytes : List ℕ)
           ∙ rw (here, eq-eqb (get_or text i 0) 10 e)
           (ap (λ (b : Bool). go_on (line_of count (take (i - from) (drop from text))) count bytes b then) last_is)
 
-  module _ (h : i ≤ n) (g : n ≤ i) where
+  module _ (h : i ≤ length text) (g : length text ≤ i) where
     text_ends : text_of more text ≡ bad_line (count + 1)
     unfolding text_from
     text_ends = let end : i ≡ length text = omega arith in so_far ∙ rw (end, drop-length text)
@@ -281,18 +281,18 @@ module _ (more : Bool) (text : List ℕ) (i from count : ℕ) (bytes : List ℕ)
 
 -- the same where the bytes are those at the front of the room, and the code took a step
 module _ (more : Bool) (text : List ℕ) (i from count size : ℕ) (room : List ℕ)
-    (so_far : text_of more text ≡ text_from more (take (i - from) (drop from text)) count (take size room) (drop i text)) (n : ℕ) (l : n ≡ length text)
-    (h : i < n) (e : get_or text i 0 ≡ 10) (last : Bool) (q : last ≡ cond more false (eqb (i + 1) n)) (long : length room ≡ 4096) (within : size ≤ 4096)
+    (so_far : text_of more text ≡ text_from more (take (i - from) (drop from text)) count (take size room) (drop i text))
+    (h : i < length text) (e : get_or text i 0 ≡ 10) (last : Bool) (q : last ≡ cond more false (eqb (i + 1) (length text))) (long : length room ≡ 4096) (within : size ≤ 4096)
     (s : Result Step BadLine) (p : s ≡ step_of (line_of count (take (i - from) (drop from text))) count size last) (after : List ℕ)
     (a : after ≡ step_leaves (line_of count (take (i - from) (drop from text))) size room) where
   abbrev line : Line
   line = line_of count (take (i - from) (drop from text))
 
   abbrev rest : List ℕ → Text
-  rest = then more text i from count (take size room) so_far n l h e last q
+  rest = then more text i from count (take size room) so_far h e last q
 
   ends : text_of more text ≡ go_on line count (take size room) last rest
-  ends = line_ends more text i from count (take size room) so_far n l h e last q
+  ends = line_ends more text i from count (take size room) so_far h e last q
 
   module _ (longer : ℕ) (y : s ≡ Ok (Over longer)) where
     is_over : (Ok longer ≡ made_of (go_on line count (take size room) last rest))

@@ -5,27 +5,27 @@ use borrow.Author.Rules.{rules}
 use Rattle.write_table.proofs.Laws.Text.{bad_is, bad_made, left_is, made_is, next_line, next_long, next_size, one_byte}
 use Rattle.write_table.proofs.text.table_in.Goals as goal
 
-pub loop-i-preserved-then-text-i-ne10 : goal.loop-i-preserved-then-text-i-ne10
-loop-i-preserved-then-text-i-ne10 c = (search rules, search rules, search rules, search rules, search rules, search rules, search rules, search one_byte)
+pub loop-i-preserved-then-byte-ne10 : goal.loop-i-preserved-then-byte-ne10
+loop-i-preserved-then-byte-ne10 c = (search rules, search rules, search rules, search rules, search one_byte)
 
 pub returns-in_err-longer-clause-made : goal.returns-in_err-longer-clause-made
 returns-in_err-longer-clause-made c =
     let I = c.loop-i.invariant in
     let p = err_from_is_err_and c.from_residual.result c.from_residual.ensures.1 in
     rw (p.1, p.2)
-    (bad_is _ _ _ _ _ _ _ I.7 _ I.1 c.loop-i-test.true c.if-text-i-ne10.false _ c.is_end-is_last.ensures I.6 I.5 _ c.take_line.ensures.step _
+    (bad_is _ _ _ _ _ _ _ I.4 c.loop-i-test.true c.if-byte-ne10.false _ c.is_end-is_last.ensures I.3 I.2 _ c.take_line.ensures.step _
     c.take_line.ensures.left _ c.in_err-longer.was)
 
 pub returns-in-Over-clause-made : goal.returns-in-Over-clause-made
 returns-in-Over-clause-made c =
     let I = c.loop-i.invariant in
-    made_is _ _ _ _ _ _ _ I.7 _ I.1 c.loop-i-test.true c.if-text-i-ne10.false _ c.is_end-is_last.ensures I.6 I.5 _ c.take_line.ensures.step _
+    made_is _ _ _ _ _ _ _ I.4 c.loop-i-test.true c.if-byte-ne10.false _ c.is_end-is_last.ensures I.3 I.2 _ c.take_line.ensures.step _
     c.take_line.ensures.left _ (c.in_ok-longer.was ∙ ap Ok c.in-Over.is)
 
 pub returns-in-Over-clause-left : goal.returns-in-Over-clause-left
 returns-in-Over-clause-left c =
     let I = c.loop-i.invariant in
-    left_is _ _ _ _ _ _ _ I.7 _ I.1 c.loop-i-test.true c.if-text-i-ne10.false _ c.is_end-is_last.ensures I.6 I.5 _ c.take_line.ensures.step _
+    left_is _ _ _ _ _ _ _ I.4 c.loop-i-test.true c.if-byte-ne10.false _ c.is_end-is_last.ensures I.3 I.2 _ c.take_line.ensures.step _
     c.take_line.ensures.left _ (c.in_ok-longer.was ∙ ap Ok c.in-Over.is)
 
 pub loop-i-preserved : goal.loop-i-preserved
@@ -34,13 +34,10 @@ loop-i-preserved c =
     let more = c.in_ok-longer.was ∙ ap Ok c.in-More.is in (
       search rules,
       search rules,
-      search rules,
-      search rules,
-      search rules,
-      next_size _ _ _ _ _ _ _ I.7 _ I.1 c.loop-i-test.true c.if-text-i-ne10.false _ c.is_end-is_last.ensures I.6 I.5 _ c.take_line.ensures.step _
+      next_size _ _ _ _ _ _ _ I.4 c.loop-i-test.true c.if-byte-ne10.false _ c.is_end-is_last.ensures I.3 I.2 _ c.take_line.ensures.step _
           c.take_line.ensures.left _ more,
       search next_long,
-      next_line _ _ _ _ _ _ _ I.7 _ I.1 c.loop-i-test.true c.if-text-i-ne10.false _ c.is_end-is_last.ensures I.6 I.5 _ c.take_line.ensures.step _
+      next_line _ _ _ _ _ _ _ I.4 c.loop-i-test.true c.if-byte-ne10.false _ c.is_end-is_last.ensures I.3 I.2 _ c.take_line.ensures.step _
           c.take_line.ensures.left _ more,
     )
 

@@ -6,10 +6,7 @@ use Rattle.write_table.specs.Text.{text_from, text_of}
 use Rattle.write_table.proofs.text.table_in.Given as goal
 
 abbrev pub invariant-loop-i : goal.invariant-loop-i
-invariant-loop-i l = (l.i ≤ l.n)
-    × (l.n ≡ length l.text)
-    × (l.n ≤ 65536)
-    × (l.from ≤ l.i)
+invariant-loop-i l = (l.from ≤ l.i)
     × (l.count ≤ l.from)
     × (l.size ≤ 4096)
     × (length l.room ≡ 4096)

@@ -56,6 +56,7 @@ impl<'a> Run<'a> {
         ensures { result ≡ numbers 64 (big_sub_words (λ i. wide_keys_from (halves self.entry.counter.low self.entry.counter.high) (first + i)) (bytes_of 4 self.entry.salt) (bytes_of 64 s)) }
     {
         let mut r = s;
+        // with `array::from_fn` the closure states the bound on i and the word's rounds once more, and a second closure lays the words out: no plainer
         for i in 0..16 {
             let at = 4 * i;
             let word = [r[at], r[at + 1], r[at + 2], r[at + 3]];
@@ -76,6 +77,7 @@ fn shift_and_mix(s: [u32; 64]) -> [u32; 64]
     ensures { result ≡ numbers 64 (big_mix_columns (big_shift_rows (bytes_of 64 s))) }
 {
     let mut r = [0u32; 64];
+    // a mix gives four numbers that stand apart: an `array::from_fn` over the 64 would make each mix four times
     for j in 0..4 {
         for c in 0..4 {
             let at = 16 * c + j;

@@ -133,6 +133,7 @@ impl Session {
     pub fn add_bits(self, piece: &[u8], count: u64) -> Result<Session, Refused>
         ensures { answer_of result ≡ add_bits_answer self piece.now count }
     {
+        // and not `map_err(..)?`: what a closure ensures comes out as a chain of records that no law of plain variables fits
         if let Err(refusal) = self.check_add_bits(piece, count) {
             return Err(self.refused(refusal));
         }

@@ -59,9 +59,6 @@ module _ (m c₀ : List ℕ) where
     pub done : (q x : ℕ) → q < 4 → x < b → get_or c (16 * q + x) 0 ≡ get_or (mix_column m (column_at c₀ x)) q 0
     pub rest : (k : ℕ) → b ≤ k % 16 → get_or c k 0 ≡ get_or c₀ k 0
 
-  pub mixed_none : length c₀ ≡ 64 → Mixed 0 c₀
-  mixed_none l = record { long = l; reach = omega arith; done = λ q x hq hx. absurd (not-suc-le-zero hx); rest = λ k h. refl }
-
   -- the column at the position b is still the old one
   old_column : (b : ℕ) (c : List ℕ) → Mixed b c → b < 16 → column_at c b ≡ column_at c₀ b
   old_column b c M h = four (M.rest b (omega arith)) (M.rest (16 + b) (omega arith)) (M.rest (32 + b) (omega arith)) (M.rest (48 + b) (omega arith))

@@ -81,16 +81,6 @@ module _ (mode : Mode) (c b x y : ℕ) where
   pub fits_shorter : x ≡ chaining_size mode 256 → c ≡ x → y ≡ block_size mode 256 → eqb b y ≡ sizes_fit mode c b
   fits_shorter p e q = sym (rw (e, p, eq-eqb (chaining_size mode 256) (chaining_size mode 256) refl, other_size_lem, or-false, q))
 
-  module _ (z : ℕ) (p : x ≡ chaining_size mode 256) (n : c ≡ x → ⊥) (r : z ≡ chaining_size mode 512) where
-    no_shorter : eqb c (chaining_size mode 256) ≡ false
-    no_shorter = ne_eqb c (chaining_size mode 256) (λ e. n (e ∙ sym p))
-
-    pub fits_longer : c ≡ z → y ≡ block_size mode 512 → eqb b y ≡ sizes_fit mode c b
-    fits_longer e q = sym (rw (no_shorter, eq-eqb c (chaining_size mode 512) (e ∙ r), q))
-
-    pub fits_neither : (c ≡ z → ⊥) → false ≡ sizes_fit mode c b
-    fits_neither m = sym (rw (no_shorter, ne_eqb c (chaining_size mode 512) (λ e. m (e ∙ sym r))))
-
 module _ (mode : Mode) (c x : ℕ) (p : x ≡ chaining_size mode 256) where
   pub rounds_8 : c ≡ x → 8 ≡ round_count mode c
   rounds_8 e = sym (rw (eq-eqb c (chaining_size mode 256) (e ∙ p)))

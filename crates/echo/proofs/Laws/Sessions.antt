@@ -1,5 +1,5 @@
 -- Laws of the session's definitions, over plain records. Assumes nothing.
-use Rattle.std.proofs.Common.{◌≡◌, ℕ, ◌+◌, ◌-◌, ◌*◌, ◌/◌, ◌%◌, ◌^◌, ◌<◌, ◌≤◌, Bool, true, false, not, ◌&&◌, eqb, ltb, leb, ◌⊎◌, inl, inr, List, [], ◌∷◌, ◌++◌, length, get_or, take, drop, replicate, sym, refl, ap, ◌∙◌, ap₂, subst, arith, take-append-drop, length-take-le, ltb-false, le-ltb, lt-ltb, eq-eqb, ne_eqb, eqb-true, le-leb, leb-true}
+use Rattle.std.proofs.Common.{◌≡◌, ℕ, ◌+◌, ◌-◌, ◌*◌, ◌/◌, ◌%◌, ◌<◌, ◌≤◌, Bool, true, false, not, ◌&&◌, eqb, ltb, leb, ◌⊎◌, inl, inr, List, [], ◌∷◌, ◌++◌, length, get_or, take, drop, replicate, sym, refl, ap, ◌∙◌, ap₂, subst, arith, take-append-drop, length-take-le, ltb-false, le-ltb, lt-ltb, eq-eqb, ne_eqb, eqb-true, le-leb, leb-true}
 use borrow.Author.Tests.{lt-leb, not-false, not-true}
 use lib.Seq.{take-append-le}
 use Rattle.aes_round.specs.Bytes.{tab}
@@ -96,9 +96,6 @@ module _ (s : Session) (piece : List ℕ) (count : ℕ) (a : Bool) (e : a ≡ is
     module _ (n : count ≤ bit_limit - s.taken) where
       room : s.taken + count ≤ bit_limit
       room = omega (arith, taken_most s a e holds)
-
-      pub size_fits : count + 7 < 2 ^ 64
-      size_fits = omega (arith, room)
 
       pub add_6 : (length piece ≡ (count + 7) / 8 → ⊥) → 6 ≡ add_bits_refusal s piece count
       unfolding add_bits_refusal

@@ -2,7 +2,7 @@
 use mathlib.Core.Path.{◌≡◌, refl, sym, ap, ◌∙◌}
 use mathlib.Core.List.{List}
 use Prim.Native.Nat.{ℕ, suc, ◌+◌, ◌-◌, ◌≤◌}
-use native.Mathlib.Nat.{add-zero, zero-add}
+use native.Mathlib.Nat.{add-zero}
 use native.Mathlib.Omega.{arith}
 use lib.ListN.{length}
 use Rattle.steering.specs.Answers.{Counted, End, Found, Reading, Refused}
@@ -15,10 +15,6 @@ use Rattle.steering.proofs.Laws.Reading.{found}
 abbrev count_on : ℕ → Parsed → Counted
 count_on k (accepted rs) = record { refusal = 0; place = 0; count = k + length rs }
 count_on k (refused number place) = record { refusal = number; place = place; count = 0 }
-
-count_none : (q : Parsed) → count_of q ≡ count_on 0 q
-count_none (accepted rs) = ap (λ (n : ℕ). record { refusal = 0; place = 0; count = n }) (sym (zero-add (length rs)))
-count_none (refused number place) = refl
 
 count_more : (k : ℕ) (r : Record) (q : Parsed) → count_on k (in_front r q) ≡ count_on (k + 1) q
 count_more k r (accepted rs) = let e : k + suc (length rs) ≡ k + 1 + length rs = omega arith in ap (λ (n : ℕ). record { refusal = 0; place = 0; count = n }) e
@@ -33,11 +29,6 @@ pub record Counting (t : List ℕ) (at k : ℕ) : Type 0 where
   pub within : at ≤ length t
   pub few : k ≤ at
   pub leads : count_of (parse t) ≡ count_on k (parse_from (suc (length t) - k) t at)
-
-pub count_start : (t : List ℕ) → Counting t 0 0
-count_start t =
-    let e : suc (length t) ≡ suc (length t) - 0 = omega arith in
-    record { within = omega arith; few = omega arith; leads = count_none (parse t) ∙ ap (λ (n : ℕ). count_on 0 (parse_from n t 0)) e }
 
 -- a turn, by what was read at the place
 module _ (t : List ℕ) (at k : ℕ) (C : Counting t at k) where

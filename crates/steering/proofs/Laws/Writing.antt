@@ -2,7 +2,7 @@
 use mathlib.Core.Path.{◌≡◌, refl, sym, ap, ap₂, ◌∙◌}
 use mathlib.Core.Bool.{Bool, true, false}
 use mathlib.Core.List.{List, [], ◌∷◌, ◌++◌, append_assoc}
-use Prim.Native.Nat.{ℕ, suc, ◌+◌, ◌-◌, ◌^◌, ◌<◌, ◌≤◌}
+use Prim.Native.Nat.{ℕ, suc, ◌+◌, ◌-◌, ◌^◌, ◌≤◌}
 use native.Mathlib.Numerals.{add-one}
 use native.Mathlib.Omega.{arith}
 use borrow.Author.Tests.{eq-eqb, lt-leb, ltb-false, ne_eqb}
@@ -122,21 +122,8 @@ module _ (room : List ℕ) (place : ℕ) (r : Record) (kind n : ℕ) (k : kind �
       pub record_fits_room : place + 1 + n ≤ length room
       record_fits_room = ltb-false (length room) (place + 1 + n) (sym s ∙ no)
 
-      pub place_in_room : place < length room
-      place_in_room = omega (arith, record_fits_room)
-
       pub body_in_room : (byte : ℕ) → place + 1 + length (body_of r) ≤ length (set room place byte)
       body_in_room byte = omega (arith, record_fits_room, n_bytes, length-set room place byte)
-
-      module _ (slice : length room < 2 ^ 64) where
-        pub body_place_fits : place + 1 < 2 ^ 64
-        body_place_fits = omega (arith, record_fits_room)
-
-        pub length-fits : place + n < 2 ^ 64
-        length-fits = omega (arith, record_fits_room)
-
-        pub next_fits : place + n + 1 < 2 ^ 64
-        next_fits = omega (arith, record_fits_room)
 
       module _ (high : Bool) (h : high ≡ address_too_high r) where
         pub answer_12 : high ≡ true → record { refusal = 12; next = 0 } ≡ write_answer (length room) place r

@@ -1,1 +1,2 @@
--- What is proved of this crate, apart from its functions: nothing.
+-- What is proved of this crate, apart from its functions.
+mod Laws

@@ -10,27 +10,32 @@
 // The tasks are 1 add, 2 read, 3 ask whether it is a session, 4 open; 5 add, 6 read, 7 open, which print all of the session that is handed
 // back, where 1, 2 and 4 leave the mode and the waiting block's last 32 bytes out; and 8 add so many bits, 9 read, 10 ask, 11 add bytes, which
 // print all, and bits for bytes.
-ghost use Rattle.std.specs.Prelude.{◌≤◌, ◌+◌, length};
+ghost use Rattle.std.specs.Prelude.{◌≤◌};
 
-use cases_in::{mode_of, number_of};
-use echo::{Answer, Mode, Session};
+use cases_in::{Fields, Given, counted, given_session, put_session};
+use echo::{Refused, Session};
 use host::Source;
 use lines::Line;
 
-// The bytes from the place `at` on.
-fn bytes_at(case: &[u8; 642], at: usize, room: &mut [u8])
-    requires { at + length room.old ≤ 642 }
-{
-    room.copy_from_slice(&case[at..at + room.len()]);
+#[derive(Drop)]
+struct Case {
+    task: u8,
+    given: Given,
+    // the room of the piece or the output, and how much of it is lent; of the salt, for an opening
+    room: [u8; 255],
+    n: u8,
 }
 
-// The number in eight bytes from the place `at` on.
-fn long(case: &[u8; 642], at: usize) -> u64
-    requires { at + 8 ≤ 642 }
-{
-    let mut number = [0u8; 8];
-    bytes_at(case, at, &mut number);
-    u64::from_le_bytes(number)
+fn case_of(bytes: &[u8; 642]) -> Option<Case> {
+    let mut fields = Fields::new(bytes);
+    let [task, n] = fields.array::<2>()?;
+    let session = fields.array()?;
+    Some(Case {
+        task,
+        given: given_session(&session, 8 <= task),
+        room: fields.array()?,
+        n,
+    })
 }
 
 // How a session is printed: all of it or what it had before it had a mode, by its bits or its bytes, and the count that it was handed over with.
@@ -41,55 +46,22 @@ struct Form {
     given: u64,
 }
 
-// The count of a session that is handed back, in bits or in bytes. A record whose bits don't fit a number comes back as it was.
-fn counted(form: Form, taken: u64) -> u64 {
-    if form.in_bits {
-        return taken;
-    }
-    match form.given.checked_mul(8) {
-        Some(_) => taken / 8,
-        None => form.given,
+// The refusal's number, or 0 where there is none, and the session that is handed back in either case.
+fn number_and_session(answer: Result<Session, Refused>) -> (u8, Session) {
+    match answer {
+        Ok(session) => (0, session),
+        Err(refused) => (refused.refusal.number(), refused.session),
     }
 }
 
-// The record of a case, session or not. The highest count stands for one whose bits don't fit a number, and is no session's either.
-fn record(case: &[u8; 642], in_bits: bool) -> Session {
-    let given = long(case, 10);
-    let taken = if in_bits {
-        given
-    } else {
-        given.saturating_mul(8)
-    };
-    let mut session = Session {
-        mode: mode_of(case[386]),
-        bits: long(case, 2),
-        salt: [0; 16],
-        chaining: [0; 128],
-        taken,
-        waiting: [0; 224],
-    };
-    bytes_at(case, 18, &mut session.salt);
-    bytes_at(case, 34, &mut session.chaining);
-    bytes_at(case, 162, &mut session.waiting);
-    session
+fn put_answer<const N: usize>(line: &mut Line<N>, answer: Result<Session, Refused>, form: Form) {
+    let (number, session) = number_and_session(answer);
+    let count = counted(form.in_bits, form.given, session.taken);
+    line.decimal(number as u64);
+    put_session(line, session, count, form.all);
 }
 
-// Puts what is handed back: the mode and the whole waiting block only where all is printed, else its first 192 bytes.
-fn put_answer<const N: usize>(line: &mut Line<N>, answer: Answer, form: Form) {
-    let session = answer.session;
-    line.decimal(answer.refusal as u64);
-    if form.all {
-        line.text(b" ").decimal(number_of(session.mode));
-    }
-    line.text(b" ").decimal(session.bits);
-    line.text(b" ").decimal(counted(form, session.taken));
-    line.text(b" ").hex(&session.salt);
-    line.text(b" ").hex(&session.chaining);
-    let shown = if form.all { 224 } else { 192 };
-    line.text(b" ").hex(&session.waiting[..shown]);
-}
-
-fn print_answer(rt: &HostRuntime, answer: Answer, form: Form) {
+fn print_answer(rt: &HostRuntime, answer: Result<Session, Refused>, form: Form) {
     let mut line = Line::<1024>::new();
     put_answer(&mut line, answer, form);
     line.text(b"\n");
@@ -97,26 +69,21 @@ fn print_answer(rt: &HostRuntime, answer: Answer, form: Form) {
 }
 
 // The answer, and the room that was lent.
-fn print_with_room(rt: &HostRuntime, answer: Answer, room: &[u8], form: Form) {
+fn print_with_room(rt: &HostRuntime, answer: Result<Session, Refused>, room: &[u8], form: Form) {
     let mut line = Line::<2048>::new();
     put_answer(&mut line, answer, form);
     line.text(b" ").hex(room).text(b"\n");
     let _ = host::print(rt, line.bytes());
 }
 
-// Lends the room, and prints what is in it afterwards.
-fn read(rt: &HostRuntime, session: Session, room: &mut [u8], form: Form) {
-    let answer = session.read(room);
-    print_with_room(rt, answer, room, form);
-}
-
-// Lends the first n bytes of a room that is the case's.
-fn read_into(rt: &HostRuntime, session: Session, case: &[u8; 642], n: usize, form: Form)
+// Lends the first n bytes of a room, and prints what is in them afterwards.
+fn read_into(rt: &HostRuntime, session: Session, room: [u8; 255], n: usize, form: Form)
     requires { n ≤ 255 }
 {
-    let mut room = [0u8; 255];
-    bytes_at(case, 387, &mut room);
-    read(rt, session, &mut room[..n], form);
+    let mut own = room;
+    let lent = &mut own[..n];
+    let answer = session.read(lent);
+    print_with_room(rt, answer, lent, form);
 }
 
 fn tell(rt: &HostRuntime, session: Session) {
@@ -128,76 +95,76 @@ fn tell(rt: &HostRuntime, session: Session) {
     let _ = host::print(rt, told);
 }
 
-// Opens with the first n bytes of the salt, at most all of them.
-fn open(rt: &HostRuntime, mode: Mode, bits: u64, salt: &[u8], n: usize, all: bool) {
+// Opens with the first n bytes of the record's salt, at most all of them.
+fn open(rt: &HostRuntime, record: Session, n: usize, all: bool) {
     let form = Form {
         all,
         in_bits: false,
         given: 0,
     };
-    print_answer(
-        rt,
-        Session::open(mode, bits, &salt[..n.min(salt.len())]),
-        form,
-    );
+    let answer = Session::open(record.mode, record.bits, &record.salt[..n.min(16)]);
+    print_answer(rt, answer, form);
 }
 
 // Tasks 1 to 7.
-fn by_bytes(rt: &HostRuntime, case: &[u8; 642]) {
-    let n = case[1] as usize;
-    let piece = &case[387..387 + n];
-    let session = record(case, false);
+fn by_bytes(rt: &HostRuntime, case: &Case) {
+    let session = case.given.session;
+    let n = case.n as usize;
     let form = Form {
-        all: 4 < case[0],
+        all: 4 < case.task,
         in_bits: false,
-        given: long(case, 10),
+        given: case.given.count,
     };
-    match case[0] {
-        1 | 5 => print_answer(rt, session.add(piece), form),
-        2 | 6 => read_into(rt, session, case, n, form),
+    match case.task {
+        1 | 5 => print_answer(rt, session.add(&case.room[..n]), form),
+        2 | 6 => read_into(rt, session, case.room, n, form),
         3 => tell(rt, session),
-        _ => open(rt, session.mode, session.bits, &case[18..34], n, form.all),
+        _ => open(rt, session, n, form.all),
     }
 }
 
 // Tasks from 8 on, with the bit count of the piece.
-fn by_bits(rt: &HostRuntime, case: &[u8; 642], count: u64) {
-    let n = case[1] as usize;
-    let piece = &case[387..387 + n];
-    let session = record(case, true);
+fn by_bits(rt: &HostRuntime, case: &Case, count: u64) {
+    let session = case.given.session;
+    let n = case.n as usize;
     let form = Form {
         all: true,
         in_bits: true,
         given: 0,
     };
-    match case[0] {
+    let piece = &case.room[..n];
+    match case.task {
         8 => print_answer(rt, session.add_bits(piece, count), form),
-        9 => read_into(rt, session, case, n, form),
+        9 => read_into(rt, session, case.room, n, form),
         10 => tell(rt, session),
         _ => print_answer(rt, session.add(piece), form),
     }
 }
 
-// The case, with what stands behind it from task 8 on; false where the input ends within that.
-fn run(rt: &HostRuntime, input: &mut Source, case: &[u8; 642]) -> bool {
-    if case[0] < 8 {
-        by_bytes(rt, case);
-        return true;
+// The next case, with what stands behind it from task 8 on; none where the input ends.
+fn next(rt: &HostRuntime, input: &mut Source) -> Option<()> {
+    let mut bytes = [0u8; 642];
+    if host::read_full(input, &mut bytes) < 642 {
+        return None;
+    }
+    let case = case_of(&bytes)?;
+    if case.task < 8 {
+        by_bytes(rt, &case);
+        return Some(());
     }
     let mut count = [0u8; 8];
     if host::read_full(input, &mut count) < 8 {
-        return false;
+        return None;
     }
-    by_bits(rt, case, u64::from_le_bytes(count));
-    true
+    by_bits(rt, &case, u64::from_le_bytes(count));
+    Some(())
 }
 
 // A proved loop has to end, and nothing says that the input does: there are more turns than any run uses up.
 fn main(rt: HostRuntime) {
     let mut input = host::standard_input(&rt);
-    let mut case = [0u8; 642];
     for _ in 0..u64::MAX {
-        if host::read_full(&mut input, &mut case) < 642 || !run(&rt, &mut input, &case) {
+        if next(&rt, &mut input).is_none() {
             return;
         }
     }

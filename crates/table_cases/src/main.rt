@@ -3,23 +3,45 @@
 //
 // A case is 24 bytes and a table: the task (1, 2, 3), the salt's length, the output room's length, a zero, the place (two bytes), the
 // table's length (two) and sixteen salt bytes. Numbers have their least significant byte first.
-ghost use Rattle.std.specs.Prelude.{◌+◌, ◌≤◌, length};
+ghost use Rattle.std.specs.Prelude.{◌≤◌, length};
 
+use cases_in::Fields;
 use host::Source;
 use lines::Line;
-use steering::{Radio, Reading, Record};
+use steering::{Radio, Record, Refusal};
 
-// The number in two bytes from the place `at` on.
-fn short(header: &[u8; 24], at: usize) -> u16
-    requires { at + 2 ≤ 24 }
-{
-    u16::from_le_bytes([header[at], header[at + 1]])
+// What stands in front of a table.
+#[derive(Drop)]
+struct Header {
+    task: u8,
+    salt_length: usize,
+    // the output room's length
+    lent: usize,
+    place: usize,
+    // the table's length
+    n: usize,
+    salt: [u8; 16],
 }
 
-fn print_refused(rt: &HostRuntime, number: u8, place: usize) {
+fn header_of(bytes: &[u8; 24]) -> Option<Header> {
+    let mut fields = Fields::new(bytes);
+    let [task, salt_length, lent, _] = fields.array::<4>()?;
+    Some(Header {
+        task,
+        salt_length: salt_length as usize,
+        lent: lent as usize,
+        place: u16::from_le_bytes(fields.array()?) as usize,
+        n: u16::from_le_bytes(fields.array()?) as usize,
+        salt: fields.array()?,
+    })
+}
+
+fn print_refused(rt: &HostRuntime, refusal: Refusal) {
     let mut line = Line::<64>::new();
-    line.text(b"refused ").decimal(number as u64);
-    line.text(b" at ").decimal(place as u64).text(b"\n");
+    line.text(b"refused ").decimal(refusal.number() as u64);
+    line.text(b" at ")
+        .decimal(refusal.place() as u64)
+        .text(b"\n");
     let _ = host::print(rt, line.bytes());
 }
 
@@ -64,37 +86,39 @@ fn print_found(rt: &HostRuntime, record: Record, next: usize) {
 
 fn read(rt: &HostRuntime, table: &[u8], place: usize) {
     match steering::read_at(table, place) {
-        Reading::Found { record, next } => {
-            print_found(rt, record, next);
-        }
-        Reading::End => {
+        Ok(Some((record, next))) => print_found(rt, record, next),
+        Ok(None) => {
             let _ = host::print(rt, b"end\n");
         }
-        Reading::Refused { number, place } => {
-            print_refused(rt, number, place);
-        }
+        Err(refusal) => print_refused(rt, refusal),
     }
 }
 
-fn count(rt: &HostRuntime, table: &[u8]) {
-    let counted = steering::count(table);
-    let refused = counted.refusal;
-    if refused != 0 {
-        print_refused(rt, refused, counted.place);
-        return;
-    }
+fn print_count(rt: &HostRuntime, records: usize) {
     let mut line = Line::<64>::new();
-    line.text(b"records ")
-        .decimal(counted.count as u64)
-        .text(b"\n");
+    line.text(b"records ").decimal(records as u64).text(b"\n");
     let _ = host::print(rt, line.bytes());
 }
 
-fn print_room(rt: &HostRuntime, refusal: u8, place: usize, room: &[u8]) {
+fn count(rt: &HostRuntime, table: &[u8]) {
+    match steering::count(table) {
+        Ok(records) => print_count(rt, records),
+        Err(refusal) => print_refused(rt, refusal),
+    }
+}
+
+// The number and the place of a refusal, or zeros where there is none.
+fn number_and_place(answer: Result<(), Refusal>) -> (u8, usize) {
+    match answer {
+        Ok(()) => (0, 0),
+        Err(refusal) => (refusal.number(), refusal.place()),
+    }
+}
+
+fn print_room(rt: &HostRuntime, answer: Result<(), Refusal>, room: &[u8]) {
+    let (number, place) = number_and_place(answer);
     let mut line = Line::<128>::new();
-    line.decimal(refusal as u64)
-        .text(b" ")
-        .decimal(place as u64);
+    line.decimal(number as u64).text(b" ").decimal(place as u64);
     line.text(b" ").hex(room).text(b"\n");
     let _ = host::print(rt, line.bytes());
 }
@@ -104,48 +128,54 @@ fn fingerprint(rt: &HostRuntime, salt: &[u8], table: &[u8], room: &mut [u8], end
     requires { end ≤ length room.old }
 {
     let answer = steering::fingerprint(salt, table, &mut room[..end]);
-    print_room(rt, answer.refusal, answer.place, room);
+    print_room(rt, answer, room);
 }
 
 // The case of a header and a table.
-fn run(rt: &HostRuntime, header: &[u8; 24], table: &[u8]) {
-    match header[0] {
-        1 => read(rt, table, short(header, 4) as usize),
+fn run(rt: &HostRuntime, header: &Header, table: &[u8]) {
+    match header.task {
+        1 => read(rt, table, header.place),
         2 => count(rt, table),
         _ => {
-            let salt_end = 8 + header[1] as usize;
-            let room_end = header[2] as usize;
-            if salt_end <= 24 && room_end <= 40 {
+            if header.salt_length <= 16 && header.lent <= 40 {
                 let mut room = [0xa5u8; 40];
-                fingerprint(rt, &header[8..salt_end], table, &mut room, room_end);
+                let salt = &header.salt[..header.salt_length];
+                fingerprint(rt, salt, table, &mut room, header.lent);
             }
         }
     }
 }
 
-// Reads the table of n bytes that follows its header.
-fn run_next(rt: &HostRuntime, input: &mut Source, header: &[u8; 24], room: &mut [u8], n: usize)
-    requires { n ≤ length room.old }
-{
-    let table = &mut room[..n];
-    if host::read_full(input, table) == n {
+// Reads the table that follows its header; none where there is no room for it.
+fn run_next(
+    rt: &HostRuntime,
+    input: &mut Source,
+    header: &Header,
+    room: &mut [u8; 4097],
+) -> Option<()> {
+    let table = room.get_mut(..header.n)?;
+    if host::read_full(input, table) == header.n {
         run(rt, header, table);
     }
+    Some(())
+}
+
+// The next case; none at the end of the input.
+fn next(rt: &HostRuntime, input: &mut Source, room: &mut [u8; 4097]) -> Option<()> {
+    let mut bytes = [0u8; 24];
+    if host::read_full(input, &mut bytes) < 24 {
+        return None;
+    }
+    run_next(rt, input, &header_of(&bytes)?, room)
 }
 
 // A proved loop has to end, and nothing says that the input does: there are more turns than any run uses up.
 fn main(rt: HostRuntime) {
     let mut input = host::standard_input(&rt);
-    let mut header = [0u8; 24];
     let mut room = [0u8; 4097];
     for _ in 0..u64::MAX {
-        if host::read_full(&mut input, &mut header) < 24 {
+        if next(&rt, &mut input, &mut room).is_none() {
             return;
         }
-        let n = short(&header, 6) as usize;
-        if 4097 < n {
-            return;
-        }
-        run_next(&rt, &mut input, &header, &mut room, n);
     }
 }

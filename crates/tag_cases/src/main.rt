@@ -12,37 +12,71 @@
 // The tasks are 1 a whole message, 2 open, 3 add, 4 read, 5 ask whether it is a tag session, 6 check; and 7 add, 8 read, 9 check, which print all of the
 // two sessions that are handed back, where 2, 3, 4 and 6 leave the modes and the waiting blocks' last 32 bytes out; and 10 add, 11 read, 12 ask, 13
 // check, which print all, and have message bits so far for bytes.
-ghost use Rattle.std.specs.Prelude.{◌≤◌, ◌+◌, ◌<◌, length};
+ghost use Rattle.std.specs.Prelude.{◌≤◌, ◌+◌, ◌<◌};
 
-use cases_in::{fill, mode_of, number_of};
-use echo::Session;
-use hmac::{Checking, TagAnswer, TagSession};
+use cases_in::{Fields, Given, counted, fill, given_session, put_session};
+use echo::{Refusal, Session};
+use hmac::{Checked, RefusedTag, TagSession};
 use host::Source;
 use lines::Line;
 
-// ---- numbers and bytes of a case
+// ---- cases
 
-// The number in two bytes from the place `at` on.
-fn short(head: &[u8; 40], at: usize) -> u16
-    requires { at + 2 ≤ 40 }
-{
-    u16::from_le_bytes([head[at], head[at + 1]])
+#[derive(Drop)]
+struct Head<'a> {
+    task: u8,
+    // how much is lent of the room of the piece, the output or the tag
+    n: u8,
+    bits: u64,
+    key_length: usize,
+    message_length: usize,
+    // the piece size
+    k: usize,
+    key_seed: u8,
+    message_seed: u8,
+    // none where its length is too much
+    salt: Option<&'a [u8]>,
 }
 
-// The bytes from the place `at` on.
-fn bytes_at(bytes: &[u8], at: usize, room: &mut [u8])
-    requires { at + length room.old ≤ length bytes.now }
-{
-    room.copy_from_slice(&bytes[at..at + room.len()]);
+fn head_of(bytes: &[u8; 40]) -> Option<Head<'_>> {
+    let mut fields = Fields::new(bytes);
+    let [task, n] = fields.array::<2>()?;
+    let bits = u64::from_le_bytes(fields.array()?);
+    let key_length = u16::from_le_bytes(fields.array()?) as usize;
+    let message_length = u16::from_le_bytes(fields.array()?) as usize;
+    let k = u16::from_le_bytes(fields.array()?) as usize;
+    let [key_seed, message_seed, salt_length] = fields.array::<3>()?;
+    fields.bytes(5)?;
+    Some(Head {
+        task,
+        n,
+        bits,
+        key_length,
+        message_length,
+        k,
+        key_seed,
+        message_seed,
+        salt: fields.bytes(salt_length as usize),
+    })
 }
 
-// The number in eight bytes from the place `at` on.
-fn long(bytes: &[u8], at: usize) -> u64
-    requires { at + 8 ≤ length bytes.now }
-{
-    let mut number = [0u8; 8];
-    bytes_at(bytes, at, &mut number);
-    u64::from_le_bytes(number)
+// What stands behind the head from task 3 on: a tag session or a record that is none, and the room of the piece, the output or the tag.
+#[derive(Drop)]
+struct Body {
+    inner: Given,
+    outer: Given,
+    room: [u8; 255],
+}
+
+fn body_of(bytes: &[u8; 1025], in_bits: bool) -> Option<Body> {
+    let mut fields = Fields::new(bytes);
+    let inner = fields.array()?;
+    let outer = fields.array()?;
+    Some(Body {
+        inner: given_session(&inner, in_bits),
+        outer: given_session(&outer, in_bits),
+        room: fields.array()?,
+    })
 }
 
 // How a session is printed: all of it or what it had before it had a mode, by its bits or its bytes, and the counts that its two sessions were handed
@@ -55,46 +89,27 @@ struct Form {
     outer: u64,
 }
 
-// The count of a session that is handed back, in bits or in bytes. A record whose bits don't fit a number comes back as it was given.
-fn counted(in_bits: bool, given: u64, taken: u64) -> u64 {
-    if in_bits {
-        return taken;
-    }
-    match given.checked_mul(8) {
-        Some(_) => taken / 8,
-        None => given,
+// ---- answers
+
+// The refusal's number, or 0 where there is none, and the session that is handed back in either case.
+fn number_and_session(answer: Result<TagSession, RefusedTag>) -> (u8, TagSession) {
+    match answer {
+        Ok(session) => (0, session),
+        Err(refused) => (refused.refusal.number(), refused.session),
     }
 }
 
-// The digest session, or the record that is none, from the place `at` on. The highest count stands for one whose bits don't fit a number, and is no
-// session's either.
-fn digest_session(body: &[u8; 1025], at: usize, in_bits: bool) -> Session
-    requires { at ≤ 640 }
-{
-    let given = long(body, at + 8);
-    let taken = if in_bits {
-        given
-    } else {
-        given.saturating_mul(8)
-    };
-    let mut session = Session {
-        mode: mode_of(body[at + 384]),
-        bits: long(body, at),
-        salt: [0; 16],
-        chaining: [0; 128],
-        taken,
-        waiting: [0; 224],
-    };
-    bytes_at(body, at + 16, &mut session.salt);
-    bytes_at(body, at + 32, &mut session.chaining);
-    bytes_at(body, at + 160, &mut session.waiting);
-    session
-}
-
-fn tag_session(body: &[u8; 1025], in_bits: bool) -> TagSession {
-    TagSession {
-        inner: digest_session(body, 0, in_bits),
-        outer: digest_session(body, 385, in_bits),
+// The same of a check, which says no where it is refused.
+fn number_and_check(answer: Result<Checked, RefusedTag>) -> (u8, Checked) {
+    match answer {
+        Ok(checked) => (0, checked),
+        Err(RefusedTag { refusal, session }) => (
+            refusal.number(),
+            Checked {
+                yes: false,
+                session,
+            },
+        ),
     }
 }
 
@@ -104,29 +119,18 @@ fn word_of(yes: bool) -> &'static str {
     if yes { "yes" } else { "no" }
 }
 
-// Puts a digest session, each part behind a space: the mode and the whole waiting block only where all is printed, else its first 192 bytes.
-fn put_digest_session<const N: usize>(line: &mut Line<N>, session: Session, count: u64, all: bool) {
-    if all {
-        line.text(b" ").decimal(number_of(session.mode));
-    }
-    line.text(b" ").decimal(session.bits);
-    line.text(b" ").decimal(count);
-    line.text(b" ").hex(&session.salt);
-    line.text(b" ").hex(&session.chaining);
-    let shown = if all { 224 } else { 192 };
-    line.text(b" ").hex(&session.waiting[..shown]);
-}
-
-fn put_session<const N: usize>(line: &mut Line<N>, session: TagSession, form: Form) {
+fn put_tag_session<const N: usize>(line: &mut Line<N>, session: TagSession, form: Form) {
     let inner_count = counted(form.in_bits, form.inner, session.inner.taken);
-    put_digest_session(line, session.inner, inner_count, form.all);
+    put_session(line, session.inner, inner_count, form.all);
     let outer_count = counted(form.in_bits, form.outer, session.outer.taken);
-    put_digest_session(line, session.outer, outer_count, form.all);
+    put_session(line, session.outer, outer_count, form.all);
 }
 
-fn print_refused(rt: &HostRuntime, number: u8) {
+fn print_refused(rt: &HostRuntime, refusal: Refusal) {
     let mut line = Line::<32>::new();
-    line.text(b"refused ").decimal(number as u64).text(b"\n");
+    line.text(b"refused ")
+        .decimal(refusal.number() as u64)
+        .text(b"\n");
     let _ = host::print(rt, line.bytes());
 }
 
@@ -138,28 +142,36 @@ fn print_tag(rt: &HostRuntime, tag: &[u8], right: bool, other: bool) {
     let _ = host::print(rt, line.bytes());
 }
 
-fn print_answer(rt: &HostRuntime, answer: TagAnswer, form: Form) {
+fn print_answer(rt: &HostRuntime, answer: Result<TagSession, RefusedTag>, form: Form) {
+    let (number, session) = number_and_session(answer);
     let mut line = Line::<2048>::new();
-    line.decimal(answer.refusal as u64);
-    put_session(&mut line, answer.session, form);
+    line.decimal(number as u64);
+    put_tag_session(&mut line, session, form);
     line.text(b"\n");
     let _ = host::print(rt, line.bytes());
 }
 
 // The answer, and the room that was lent.
-fn print_with_room(rt: &HostRuntime, answer: TagAnswer, room: &[u8], form: Form) {
+fn print_with_room(
+    rt: &HostRuntime,
+    answer: Result<TagSession, RefusedTag>,
+    room: &[u8],
+    form: Form,
+) {
+    let (number, session) = number_and_session(answer);
     let mut line = Line::<2560>::new();
-    line.decimal(answer.refusal as u64);
-    put_session(&mut line, answer.session, form);
+    line.decimal(number as u64);
+    put_tag_session(&mut line, session, form);
     line.text(b" ").hex(room).text(b"\n");
     let _ = host::print(rt, line.bytes());
 }
 
-fn print_checking(rt: &HostRuntime, checking: Checking, form: Form) {
+fn print_check(rt: &HostRuntime, answer: Result<Checked, RefusedTag>, form: Form) {
+    let (number, checked) = number_and_check(answer);
     let mut line = Line::<2048>::new();
-    line.decimal(checking.refusal as u64).text(b" ");
-    line.text(word_of(checking.yes).as_bytes());
-    put_session(&mut line, checking.session, form);
+    line.decimal(number as u64).text(b" ");
+    line.text(word_of(checked.yes).as_bytes());
+    put_tag_session(&mut line, checked.session, form);
     line.text(b"\n");
     let _ = host::print(rt, line.bytes());
 }
@@ -181,70 +193,6 @@ fn changed(bytes: [u8; 64], at: usize) -> [u8; 64]
     other
 }
 
-// Makes and checks at once; the last byte of the tag stands at the place n.
-fn at_once(rt: &HostRuntime, bits: u64, salt: &[u8], key: &[u8], message: &[u8], n: usize)
-    requires { n < 64 }
-{
-    let mut tag = [0u8; 64];
-    let refusal = hmac::make_tag(bits, salt, key, message, &mut tag);
-    if refusal != 0 {
-        print_refused(rt, refusal);
-        return;
-    }
-    let other = changed(tag, n);
-    let right = hmac::check_tag(bits, salt, key, message, &tag[0..n + 1]);
-    let wrong = hmac::check_tag(bits, salt, key, message, &other[0..n + 1]);
-    print_tag(rt, &tag[0..n + 1], right.yes, wrong.yes);
-}
-
-// Adds the message in pieces of k bytes, and reads and checks after each: neither changes anything.
-fn in_pieces(opened: TagSession, message: &[u8], k: usize, tag: &mut [u8]) -> TagSession
-    requires { 0 < k }
-{
-    let mut session = opened;
-    for piece in message.chunks(k) {
-        let added = session.add(piece).session;
-        let read = added.read(tag).session;
-        session = read.check(tag).session;
-    }
-    session
-}
-
-// Checks the tag, whose last byte stands at the place n, and another.
-fn check_both(rt: &HostRuntime, session: TagSession, tag: [u8; 64], n: usize)
-    requires { n < 64 }
-{
-    let other = changed(tag, n);
-    let right = session.check(&tag[0..n + 1]);
-    let wrong = session.check(&other[0..n + 1]);
-    print_tag(rt, &tag[0..n + 1], right.yes, wrong.yes);
-}
-
-// Makes and checks over a session.
-fn over_a_session(
-    rt: &HostRuntime,
-    bits: u64,
-    salt: &[u8],
-    key: &[u8],
-    message: &[u8],
-    k: usize,
-    n: usize,
-)
-    requires k_nonzero { 0 < k }
-    requires n_bound { n < 64 }
-{
-    let opening = TagSession::open(bits, salt, key);
-    let refused = opening.refusal;
-    if refused != 0 {
-        print_refused(rt, refused);
-        return;
-    }
-    let mut tag = [0u8; 64];
-    let session = in_pieces(opening.session, message, k, &mut tag);
-    let reading = session.read(&mut tag);
-    check_both(rt, reading.session, tag, n);
-}
-
 // The place of the tag's last byte, or the room's where there is no such tag.
 fn last_place(bits: u64) -> usize
     ensures { result < 64 }
@@ -255,32 +203,85 @@ fn last_place(bits: u64) -> usize
     }
 }
 
-fn whole(rt: &HostRuntime, head: &[u8; 40], salt: &[u8], key: &[u8], message: &[u8]) {
-    let bits = long(head, 2);
-    let k = short(head, 14) as usize;
-    let n = last_place(bits);
-    if k == 0 {
-        at_once(rt, bits, salt, key, message, n);
+// Makes and checks at once.
+fn at_once(
+    rt: &HostRuntime,
+    head: &Head,
+    salt: &[u8],
+    key: &[u8],
+    message: &[u8],
+) -> Result<(), Refusal> {
+    let mut tag = [0u8; 64];
+    hmac::make_tag(head.bits, salt, key, message, &mut tag)?;
+    let n = last_place(head.bits);
+    let other = changed(tag, n);
+    let right = hmac::check_tag(head.bits, salt, key, message, &tag[0..n + 1])?;
+    let wrong = hmac::check_tag(head.bits, salt, key, message, &other[0..n + 1])?;
+    print_tag(rt, &tag[0..n + 1], right, wrong);
+    Ok(())
+}
+
+// Adds the message in pieces of k bytes, and reads and checks after each: neither changes anything.
+fn in_pieces(
+    opened: TagSession,
+    message: &[u8],
+    k: usize,
+    tag: &mut [u8],
+) -> Result<TagSession, RefusedTag>
+    requires { 0 < k }
+{
+    let mut session = opened;
+    for piece in message.chunks(k) {
+        let read = session.add(piece)?.read(tag)?;
+        session = read.check(tag)?.session;
+    }
+    session.read(tag)
+}
+
+// Makes and checks over a session.
+fn over_a_session(
+    rt: &HostRuntime,
+    head: &Head,
+    salt: &[u8],
+    key: &[u8],
+    message: &[u8],
+) -> Result<(), Refusal>
+    requires { 0 < head.now.k }
+{
+    let opened = TagSession::open(head.bits, salt, key)?;
+    let mut tag = [0u8; 64];
+    let session = in_pieces(opened, message, head.k, &mut tag)?;
+    let n = last_place(head.bits);
+    let other = changed(tag, n);
+    let right = session.check(&tag[0..n + 1])?;
+    let wrong = session.check(&other[0..n + 1])?;
+    print_tag(rt, &tag[0..n + 1], right.yes, wrong.yes);
+    Ok(())
+}
+
+fn whole(rt: &HostRuntime, head: &Head, salt: &[u8], key: &[u8], message: &[u8]) {
+    let made = if head.k == 0 {
+        at_once(rt, head, salt, key, message)
     } else {
-        over_a_session(rt, bits, salt, key, message, k, n);
+        over_a_session(rt, head, salt, key, message)
+    };
+    if let Err(refusal) = made {
+        print_refused(rt, refusal);
     }
 }
 
 // Tasks 1 and 2, which begin with a key.
-fn with_key(rt: &HostRuntime, head: &[u8; 40]) {
-    let key_end = short(head, 10) as usize;
-    let message_end = short(head, 12) as usize;
-    let salt_end = 24 + head[18] as usize;
-    if 1024 < key_end || 1024 < message_end || 40 < salt_end {
+fn with_key(rt: &HostRuntime, head: &Head, salt: &[u8]) {
+    if 1024 < head.key_length || 1024 < head.message_length {
         return;
     }
-    let salt = &head[24..salt_end];
     let mut key = [0u8; 1024];
-    fill(&mut key, head[16]);
+    fill(&mut key, head.key_seed);
     let mut message = [0u8; 1024];
-    fill(&mut message, head[17]);
-    if head[0] == 1 {
-        whole(rt, head, salt, &key[..key_end], &message[..message_end]);
+    fill(&mut message, head.message_seed);
+    let key = &key[..head.key_length];
+    if head.task == 1 {
+        whole(rt, head, salt, key, &message[..head.message_length]);
         return;
     }
     let form = Form {
@@ -289,67 +290,69 @@ fn with_key(rt: &HostRuntime, head: &[u8; 40]) {
         inner: 0,
         outer: 0,
     };
-    let opening = TagSession::open(long(head, 2), salt, &key[..key_end]);
-    print_answer(rt, opening, form);
+    print_answer(rt, TagSession::open(head.bits, salt, key), form);
 }
 
 // ---- tag sessions
 
-// Lends the room, and prints what is in it afterwards.
-fn read(rt: &HostRuntime, session: TagSession, room: &mut [u8], form: Form) {
-    let answer = session.read(room);
-    print_with_room(rt, answer, room, form);
-}
-
-// Lends the first n bytes of a room that is the case's.
-fn read_into(rt: &HostRuntime, session: TagSession, body: &[u8; 1025], n: usize, form: Form)
+// Lends the first n bytes of a room, and prints what is in them afterwards.
+fn read_into(rt: &HostRuntime, session: TagSession, room: [u8; 255], n: usize, form: Form)
     requires { n ≤ 255 }
 {
-    let mut room = [0u8; 255];
-    bytes_at(body, 770, &mut room);
-    read(rt, session, &mut room[..n], form);
+    let mut own = room;
+    let lent = &mut own[..n];
+    let answer = session.read(lent);
+    print_with_room(rt, answer, lent, form);
 }
 
 // Tasks from 3 on, on a record that is handed over.
-fn with_session(rt: &HostRuntime, task: u8, n: usize, body: &[u8; 1025])
-    requires { n ≤ 255 }
-{
+fn with_session(rt: &HostRuntime, head: &Head, body: &Body) {
     let form = Form {
-        all: 6 < task,
-        in_bits: 9 < task,
-        inner: long(body, 8),
-        outer: long(body, 393),
+        all: 6 < head.task,
+        in_bits: 9 < head.task,
+        inner: body.inner.count,
+        outer: body.outer.count,
     };
-    let session = tag_session(body, form.in_bits);
-    let piece = &body[770..770 + n];
-    match task {
+    let session = TagSession {
+        inner: body.inner.session,
+        outer: body.outer.session,
+    };
+    let n = head.n as usize;
+    let piece = &body.room[..n];
+    match head.task {
         3 | 7 | 10 => print_answer(rt, session.add(piece), form),
-        4 | 8 | 11 => read_into(rt, session, body, n, form),
+        4 | 8 | 11 => read_into(rt, session, body.room, n, form),
         5 | 12 => print_whether(rt, session.is_session()),
-        _ => print_checking(rt, session.check(piece), form),
+        _ => print_check(rt, session.check(piece), form),
     }
 }
 
-// The case of a head, with what stands behind it; false where the input ends within that.
-fn run(rt: &HostRuntime, input: &mut Source, head: &[u8; 40]) -> bool {
-    if head[0] < 3 {
-        with_key(rt, head);
-        return true;
+// The next case; none where the input ends.
+fn next(rt: &HostRuntime, input: &mut Source) -> Option<()> {
+    let mut bytes = [0u8; 40];
+    if host::read_full(input, &mut bytes) < 40 {
+        return None;
     }
-    let mut body = [0u8; 1025];
-    if host::read_full(input, &mut body) < 1025 {
-        return false;
+    let head = head_of(&bytes)?;
+    if head.task < 3 {
+        if let Some(salt) = head.salt {
+            with_key(rt, &head, salt);
+        }
+        return Some(());
     }
-    with_session(rt, head[0], head[1] as usize, &body);
-    true
+    let mut behind = [0u8; 1025];
+    if host::read_full(input, &mut behind) < 1025 {
+        return None;
+    }
+    with_session(rt, &head, &body_of(&behind, 9 < head.task)?);
+    Some(())
 }
 
 // A proved loop has to end, and nothing says that the input does: there are more turns than any run uses up.
 fn main(rt: HostRuntime) {
     let mut input = host::standard_input(&rt);
-    let mut head = [0u8; 40];
     for _ in 0..u64::MAX {
-        if host::read_full(&mut input, &mut head) < 40 || !run(&rt, &mut input, &head) {
+        if next(&rt, &mut input).is_none() {
             return;
         }
     }

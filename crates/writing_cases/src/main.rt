@@ -4,111 +4,136 @@
 // A case is 24 bytes, a room and 40 bytes: the task (4 by numbers, 5 by a body), the kind byte, the body's length, three zeros, the room's
 // length (two bytes), the place (eight) and eight zeros. The last 40 begin with the numbers of the record for task 4, and with its body for 5.
 // Numbers have their least significant byte first.
-ghost use Rattle.std.specs.Prelude.{◌+◌, ◌≤◌, length};
-
+use cases_in::Fields;
 use host::Source;
 use lines::Line;
-use steering::{HoldTime, JoinFloor, NodeAddress, Note, Radio, Record, Written};
+use steering::{HoldTime, JoinFloor, NodeAddress, Note, Radio, Record, WriteRefusal};
 
-// The number in two bytes from the place `at` on.
-fn short(bytes: &[u8], at: usize) -> u16
-    requires { at + 2 ≤ length bytes.now }
-{
-    u16::from_le_bytes([bytes[at], bytes[at + 1]])
+// What stands in front of a room.
+#[derive(Drop)]
+struct Header {
+    task: u8,
+    kind: u8,
+    body_length: usize,
+    // the room's length
+    n: usize,
+    place: usize,
 }
 
-// The number in eight bytes from the place `at` on.
-fn long(bytes: &[u8], at: usize) -> u64
-    requires { at + 8 ≤ length bytes.now }
-{
-    let mut number = [0u8; 8];
-    number.copy_from_slice(&bytes[at..at + 8]);
-    u64::from_le_bytes(number)
+fn header_of(bytes: &[u8; 24]) -> Option<Header> {
+    let mut fields = Fields::new(bytes);
+    let [task, kind, body_length, _, _, _] = fields.array::<6>()?;
+    Some(Header {
+        task,
+        kind,
+        body_length: body_length as usize,
+        n: u16::from_le_bytes(fields.array()?) as usize,
+        place: u64::from_le_bytes(fields.array()?) as usize,
+    })
+}
+
+// What the answer's refusal number and next place are: 0 for no refusal, and for no place.
+fn number_and_next(answer: Result<usize, WriteRefusal>) -> (u8, usize) {
+    match answer {
+        Ok(next) => (0, next),
+        Err(refusal) => (refusal.number(), 0),
+    }
 }
 
 // The line holds a room of 4,097 bytes.
-fn print_room(rt: &HostRuntime, refusal: u8, place: usize, room: &[u8]) {
+fn print_room(rt: &HostRuntime, answer: Result<usize, WriteRefusal>, room: &[u8]) {
+    let (number, next) = number_and_next(answer);
     let mut line = Line::<8256>::new();
-    line.decimal(refusal as u64)
-        .text(b" ")
-        .decimal(place as u64);
+    line.decimal(number as u64).text(b" ").decimal(next as u64);
     line.text(b" ").hex(room).text(b"\n");
     let _ = host::print(rt, line.bytes());
 }
 
-fn floor(radio: Radio, given: &[u8; 40]) -> Record {
-    Record::Floor(JoinFloor {
-        radio,
-        level: short(given, 0),
-    })
+fn floor_of(radio: Radio, numbers: &mut Fields) -> Option<Record> {
+    let level = u16::from_le_bytes(numbers.array()?);
+    Some(Record::Floor(JoinFloor { radio, level }))
+}
+
+fn note_of(numbers: &mut Fields) -> Option<Record> {
+    Some(Record::Note(Note {
+        first: u64::from_le_bytes(numbers.array()?),
+        second: u64::from_le_bytes(numbers.array()?),
+        third: u64::from_le_bytes(numbers.array()?),
+        fourth: u64::from_le_bytes(numbers.array()?),
+    }))
 }
 
 // The record of a kind whose numbers are given.
-fn record_of(kind: u8, given: &[u8; 40]) -> Record {
+fn record_of(kind: u8, numbers: &mut Fields) -> Option<Record> {
     match kind {
-        1 => Record::Node(NodeAddress {
-            address: long(given, 0),
-        }),
-        2 => floor(Radio::Low, given),
-        3 => floor(Radio::High, given),
-        4 => Record::Hold(HoldTime {
-            time: u32::from_le_bytes([given[0], given[1], given[2], given[3]]),
-        }),
-        _ => Record::Note(Note {
-            first: long(given, 0),
-            second: long(given, 8),
-            third: long(given, 16),
-            fourth: long(given, 24),
-        }),
+        1 => Some(Record::Node(NodeAddress {
+            address: u64::from_le_bytes(numbers.array()?),
+        })),
+        2 => floor_of(Radio::Low, numbers),
+        3 => floor_of(Radio::High, numbers),
+        4 => Some(Record::Hold(HoldTime {
+            time: u32::from_le_bytes(numbers.array()?),
+        })),
+        _ => note_of(numbers),
     }
 }
 
 // Puts the record of a header and of what is given into the room, by its numbers or by its body.
-fn put_given(header: &[u8; 24], given: &[u8; 40], room: &mut [u8], end: usize) -> Written
-    requires { end ≤ 40 }
-{
-    let kind = header[1];
-    let place = long(header, 8) as usize;
-    match header[0] {
-        4 => steering::write_at(room, place, record_of(kind, given)),
-        _ => steering::write_body_at(room, place, kind, &given[..end]),
+fn put_given(
+    header: &Header,
+    given: &[u8; 40],
+    room: &mut [u8],
+) -> Option<Result<usize, WriteRefusal>> {
+    let mut fields = Fields::new(given);
+    if header.task == 4 {
+        let record = record_of(header.kind, &mut fields)?;
+        return Some(steering::write_at(room, header.place, record));
     }
+    let body = fields.bytes(header.body_length)?;
+    Some(steering::write_body_at(room, header.place, header.kind, body))
 }
 
 // The case of a header and a room: reads the 40 bytes that follow, and prints the room afterwards.
-fn write(rt: &HostRuntime, input: &mut Source, header: &[u8; 24], room: &mut [u8]) {
+fn write(rt: &HostRuntime, input: &mut Source, header: &Header, room: &mut [u8]) {
     let mut given = [0u8; 40];
-    let k = host::read_full(input, &mut given);
-    let end = header[2] as usize;
-    if k == 40 && end <= 40 {
-        let written = put_given(header, &given, room, end);
-        print_room(rt, written.refusal, written.next, room);
+    if host::read_full(input, &mut given) < 40 || 40 < header.body_length {
+        return;
+    }
+    if let Some(answer) = put_given(header, &given, room) {
+        print_room(rt, answer, room);
     }
 }
 
-// Reads the room of n bytes that follows its header.
-fn run_next(rt: &HostRuntime, input: &mut Source, header: &[u8; 24], room: &mut [u8], n: usize)
-    requires { n ≤ length room.old }
-{
-    let lent = &mut room[..n];
-    if host::read_full(input, lent) == n {
+// Reads the room that follows its header; none where it is too long.
+fn run_next(
+    rt: &HostRuntime,
+    input: &mut Source,
+    header: &Header,
+    room: &mut [u8; 4097],
+) -> Option<()> {
+    let lent = room.get_mut(..header.n)?;
+    if host::read_full(input, lent) == header.n {
         write(rt, input, header, lent);
     }
+    Some(())
+}
+
+// The next case; none at the end of the input.
+fn next(rt: &HostRuntime, input: &mut Source, room: &mut [u8; 4097]) -> Option<()> {
+    let mut bytes = [0u8; 24];
+    if host::read_full(input, &mut bytes) < 24 {
+        return None;
+    }
+    run_next(rt, input, &header_of(&bytes)?, room)
 }
 
 // A proved loop has to end, and nothing says that the input does: there are more turns than any run uses up.
 fn main(rt: HostRuntime) {
     let mut input = host::standard_input(&rt);
-    let mut header = [0u8; 24];
     let mut room = [0u8; 4097];
     for _ in 0..u64::MAX {
-        if host::read_full(&mut input, &mut header) < 24 {
+        if next(&rt, &mut input, &mut room).is_none() {
             return;
         }
-        let n = short(&header, 6) as usize;
-        if 4097 < n {
-            return;
-        }
-        run_next(&rt, &mut input, &header, &mut room, n);
     }
 }

@@ -17,12 +17,13 @@ count_in bytes = from_le_bytes w64 (part bytes 8 8)
 -- the message bits so far are the count, or eight for each byte that it counts, as far as a number goes
 abbrev pub session_in : Bool → List ℕ → Session
 session_in in_bits bytes = record {
-    mode = mode_of (slice_index bytes 384);
-    bits = from_le_bytes w64 (part bytes 0 8);
-    salt = part bytes 16 16;
-    chaining = part bytes 32 128;
-    taken = cond in_bits (count_in bytes) (min (count_in bytes * 8) (2 ^ 64 - 1));
-    waiting = part bytes 160 224 }
+  mode = mode_of (slice_index bytes 384);
+  bits = from_le_bytes w64 (part bytes 0 8);
+  salt = part bytes 16 16;
+  chaining = part bytes 32 128;
+  taken = cond in_bits (count_in bytes) (min (count_in bytes * 8) (2 ^ 64 - 1));
+  waiting = part bytes 160 224;
+}
 
 -- the count to be printed of a session that is handed back
 abbrev pub counted : Bool → ℕ → ℕ → ℕ

@@ -3,6 +3,7 @@ use command::Program;
 
 pub(crate) const PROGRAM: Program = Program {
     name: b"echosum",
+    // Where more is told stands in the same brackets.
     usage: b"echosum [-1] [-b BITS] [-s SALT] [-c] [FILE...]; see echosum --help",
 };
 

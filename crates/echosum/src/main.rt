@@ -33,8 +33,8 @@ fn take_named(
     sum_named(rt, session, name, options.style())
 }
 
-// Each file or list, until a line can't be written. The words are taken once more, which tells the files among them. Answers whether all is
-// well.
+// Each file or list, until a line can't be written. The words are taken once more, which tells the files among them. (Not by `asked`: what it
+// is given can't end the run for a line.) Answers whether all is well.
 fn take_files(rt: &HostRuntime, session: Session, options: &Options) -> Result<bool, Failed> {
     let mut room = [0u8; LONGEST_WORD];
     let mut so_far = defaults();

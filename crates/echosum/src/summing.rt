@@ -9,7 +9,7 @@ use echo::Session;
 use host::{NO_FILE, Source};
 use lines::Line;
 
-// A file or a list that can't be read, which is said.
+// A file that can't be read, which is said. It ends that file alone, where `Failed` ends the run.
 #[derive(Clone, Copy)]
 pub(crate) struct Unread;
 

@@ -1,5 +1,5 @@
 -- What the crates above may cite of this one, besides its specs and its contracts: each promise is in the words of specs/. Assumes nothing.
-use Rattle.std.proofs.Common.{◌≡◌, List, [], ◌∷◌, ◌++◌, ℕ, ◌+◌, ◌*◌, ◌-◌, ◌<◌, ◌≤◌, drop, length, replicate, None, Some, arith, eq-eqb, le-leb, refl}
+use Rattle.std.proofs.Common.{◌≡◌, List, [], ◌∷◌, ◌++◌, ℕ, ◌+◌, ◌*◌, ◌-◌, ◌<◌, ◌≤◌, ◌&&◌, cond, leb, drop, length, replicate, None, Some, arith, eq-eqb, le-leb, refl}
 use Rattle.std.proofs.lemmas.Bool.{lt-leb}
 use Rattle.std.specs.Option.{option_and_then}
 use Rattle.digits.specs.Hexadecimal.{byte_of, bytes_from, bytes_of, nibble_of}
@@ -7,6 +7,11 @@ use Rattle.digits.specs.Numbers.{decimal_of, number_from, number_of}
 use Rattle.digits.specs.Salts.{salt_of}
 
 -- ---- the value of a digit, and none of what is none
+
+pub nibble_is : (x : ℕ)
+    → nibble_of x ≡ cond (leb 48 x && leb x 57) (Some (x - 48)) (cond (leb 65 x && leb x 70) (Some (x - 65 + 10)) (cond (leb 97 x && leb x 102) (Some (x - 97 + 10)) None))
+unfolding nibble_of
+nibble_is x = refl
 
 module _ (x : ℕ) where
   pub before_digits : x < 48 → nibble_of x ≡ None
@@ -62,6 +67,24 @@ pub bytes_more : (bytes : List ℕ) (x y high low : ℕ) (rest : List ℕ) → n
     → bytes_from bytes (x ∷ y ∷ rest) ≡ bytes_from (bytes ++ ((16 * high + low) ∷ [])) rest
 unfolding bytes_from byte_of
 bytes_more bytes x y high low rest h g = rw (h, g)
+
+pub byte_is : (x y : ℕ) → byte_of x y ≡ option_and_then (λ high. option_and_then (λ low. Some (16 * high + low)) (nibble_of y)) (nibble_of x)
+unfolding byte_of
+byte_is x y = refl
+
+pub bytes_step : (bytes : List ℕ) (x y : ℕ) (rest : List ℕ)
+    → bytes_from bytes (x ∷ y ∷ rest) ≡ option_and_then (λ byte. bytes_from (bytes ++ (byte ∷ [])) rest) (byte_of x y)
+unfolding bytes_from
+bytes_step bytes x y rest = refl
+
+pub bytes_odd : (bytes : List ℕ) (x : ℕ) → bytes_from bytes (x ∷ []) ≡ None
+unfolding bytes_from
+bytes_odd bytes x = refl
+
+pub bytes_are : (n : ℕ) (text : List ℕ)
+    → bytes_of n text ≡ cond (leb (length text) (2 * n)) (option_and_then (λ bytes. Some (bytes ++ drop (length bytes) (replicate n 0))) (bytes_from [] text)) None
+unfolding bytes_of
+bytes_are n text = refl
 
 pub bytes_none : (bytes : List ℕ) → bytes_from bytes [] ≡ Some bytes
 unfolding bytes_from

@@ -1,6 +1,7 @@
 -- What the crates above may cite of this one, besides its specs, its contracts and its theorems (Theorems.antt): each promise is in the words of specs/,
 -- and its proof is a law of this crate. Assumes nothing.
-use Rattle.std.proofs.Common.{◌≡◌, ℕ, ◌+◌, ◌*◌, ◌/◌, ◌%◌, ◌<◌, ◌≤◌, Bool, true, not, ◌&&◌, ltb, List, [], ◌∷◌, ◌++◌, Result, length, drop, sym}
+use Rattle.std.proofs.Common.{◌≡◌, ℕ, ◌+◌, ◌*◌, ◌/◌, ◌%◌, ◌<◌, ◌≤◌, Bool, true, not, ◌&&◌, ltb, List, [], ◌∷◌, ◌++◌, Result, Err, length, drop, sym}
+use Rattle.std.specs.Prelude.{IsErrAnd}
 use Rattle.echo.specs.declared.mode.Mode.{Mode}
 use Rattle.echo.specs.declared.mode.Mode.TheVariants.{DoublePipe}
 use Rattle.echo.specs.declared.refusal.Refusal.{Refusal}
@@ -89,6 +90,10 @@ one_refusal = answers.one_refusal
 
 pub one_answer : (r s : Result Session Refused) → answer_of r ≡ answer_of s → r ≡ s
 one_answer = answers.one_answer
+
+-- of a refusal that becomes x on its way, `?` hands x on
+pub handed_on : {B T E : Type 0} (r : Result T E) (x : E) → B × IsErrAnd r (λ e. e ≡ x) → r ≡ Err x
+handed_on = answers.handed_on
 
 -- ---- the refusals in order
 

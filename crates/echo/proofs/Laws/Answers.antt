@@ -1,5 +1,6 @@
 -- What a routine answers is known by its numbers: a refusal by its own, which is never 0, and so each answer. Assumes nothing.
 use Rattle.std.proofs.Common.{◌≡◌, ℕ, ◌==◌, Option, Some, None, Result, Ok, Err, sym, refl, ap, ◌∙◌, ap₂}
+use Rattle.std.specs.Prelude.{IsErrAnd}
 use Rattle.echo.specs.Answers.{Answer, answer_of, number_of, refusal_of}
 use Rattle.echo.specs.Families.{either}
 use Rattle.echo.specs.declared.refusal.Refusal.{Refusal}
@@ -53,3 +54,10 @@ one_answer (Err p) (Ok t) e = absurd (some p.refusal (ap (λ (x : Answer). x.ref
 one_answer (Err p) (Err q) e =
     ap₂ (λ (refusal : Refusal) (session : Session). Err (record { refusal = refusal; session = session }))
     (one_number p.refusal q.refusal (ap (λ (x : Answer). x.refusal) e)) (ap (λ (x : Answer). x.session) e)
+
+-- ---- what `?` hands on
+
+-- of a refusal that becomes x on its way, x is handed on
+pub handed_on : {B T E : Type 0} (r : Result T E) (x : E) → B × IsErrAnd r (λ e. e ≡ x) → r ≡ Err x
+handed_on (Ok a) x h = absurd h.1
+handed_on (Err y) x h = ap Err h.1

@@ -14,6 +14,7 @@ use Rattle.std.specs.List.{list_all}
 use Rattle.std.specs.Option.{option_and_then}
 use Rattle.std.proofs.lemmas.Bool.Decides.{Decides-by_and, same_from_decides}
 use Rattle.digits.specs.Hexadecimal.{byte_of, bytes_from, bytes_of, nibble_of}
+use Rattle.digits.proofs.Promises.{byte_is, bytes_are, bytes_none, bytes_odd, bytes_step, nibble_is}
 use Rattle.steering.specs.Numbers.{AreBytes}
 use Rattle.write_table.specs.Hexadecimal.{is_hex, pairs_of, value_of}
 
@@ -47,9 +48,9 @@ module _ (x : ℕ) where
   none n e = rw (n, e)
 
   between : 57 < x → x < 97 → is_small x ≡ true → nibble_of x ≡ None
-  unfolding nibble_of
   between h g s =
-      by (leb 65 x)
+      nibble_is x
+      ∙ by (leb 65 x)
       (λ p.
       by (leb x 90)
       (λ q. absurd (true≢false (sym s ∙ simp (p, q))))
@@ -57,15 +58,14 @@ module _ (x : ℕ) where
       (λ p. simp (le-leb 48 x (omega arith), lt-leb x 57 h, p, lt-leb 97 x g))
 
   pub value_is : is_small x ≡ true → nibble_of x ≡ cond (leb (value_of x) 15) (Some (value_of x)) None
-  unfolding nibble_of
   value_is s =
       by (leb x 57)
       (λ p.
       let e = value_front (leb-true x 57 p) in
       by (leb 48 x)
-      (λ q. some (x - 48) (simp (p, q)) (omega (arith, leb-true x 57 p)) e)
+      (λ q. some (x - 48) (nibble_is x ∙ simp (p, q)) (omega (arith, leb-true x 57 p)) e)
       (λ q.
-      let n : nibble_of x ≡ None = simp (q, lt-leb 65 x (omega (arith, leb-true x 57 p)), lt-leb 97 x (omega (arith, leb-true x 57 p))) in
+      let n : nibble_of x ≡ None = nibble_is x ∙ simp (q, lt-leb 65 x (omega (arith, leb-true x 57 p)), lt-leb 97 x (omega (arith, leb-true x 57 p))) in
       none n (e ∙ rw n)))
       (λ p.
       by (leb 97 x)
@@ -76,8 +76,8 @@ module _ (x : ℕ) where
       let from_a = le-leb 65 x (omega (arith, g)) in
       let to_f = lt-leb x 70 (omega (arith, g)) in
       by (leb x 102)
-      (λ r. some (x - 97 + 10) (simp (p, low, from_a, to_f, q, r)) (omega (arith, g, leb-true x 102 r)) e)
-      (λ r. let n : nibble_of x ≡ None = simp (p, low, from_a, to_f, q, r) in none n (e ∙ rw n)))
+      (λ r. some (x - 97 + 10) (nibble_is x ∙ simp (p, low, from_a, to_f, q, r)) (omega (arith, g, leb-true x 102 r)) e)
+      (λ r. let n : nibble_of x ≡ None = nibble_is x ∙ simp (p, low, from_a, to_f, q, r) in none n (e ∙ rw n)))
       (λ q.
       let h = leb-false x 57 p in
       let g = leb-false 97 x q in
@@ -109,11 +109,11 @@ two_digits x y rest t = go (leb (value_of x) 15) (leb (value_of y) 15) refl refl
     go false b p q = absurd (true≢false (sym t ∙ rw p))
 
 -- the byte of a pair
-byte_is : (x y : ℕ) → is_small x ≡ true → is_small y ≡ true
+pair_is : (x y : ℕ) → is_small x ≡ true → is_small y ≡ true
     → byte_of x y ≡ cond (leb (value_of x) 15 && leb (value_of y) 15) (Some (16 * value_of x + value_of y)) None
-unfolding byte_of
-byte_is x y h g =
-    rw (value_is x h, value_is y g)
+pair_is x y h g =
+    byte_is x y
+    ∙ rw (value_is x h, value_is y g)
     (by (leb (value_of x) 15) (λ p. by (leb (value_of y) 15) (λ q. rw (p, q)) (λ q. rw (p, q))) (λ p. rw p))
 
 -- what holds of two in front, and of the rest
@@ -123,15 +123,16 @@ front_two true false c h = absurd (true≢false (sym h))
 front_two false b c h = absurd (true≢false (sym h))
 
 bytes_small : (bytes text : List ℕ) → list_all is_small text ≡ true → bytes_from bytes text ≡ cond (is_hex text) (Some (bytes ++ pairs_of text)) None
-unfolding bytes_from is_hex pairs_of
-bytes_small bytes [] h = ap Some (sym (append-nil bytes))
-bytes_small bytes (x ∷ []) h = refl
+unfolding is_hex pairs_of
+bytes_small bytes [] h = bytes_none bytes ∙ ap Some (sym (append-nil bytes))
+bytes_small bytes (x ∷ []) h = bytes_odd bytes x
 bytes_small bytes (x ∷ y ∷ rest) h =
     let S = front_two (is_small x) (is_small y) (list_all is_small rest) h in
     let byte = 16 * value_of x + value_of y in
     let again = bytes_small (bytes ++ (byte ∷ [])) rest S.2 in
     let behind = append_assoc bytes (byte ∷ []) (pairs_of rest) in
-    rw (byte_is x y S.0 S.1)
+    bytes_step bytes x y rest
+    ∙ rw (pair_is x y S.0 S.1)
     (by (leb (value_of x) 15 && leb (value_of y) 15)
     (λ p. rw p (again ∙ ap (λ (u : List ℕ). cond (is_hex rest) (Some u) None) behind))
     (λ p. rw p))
@@ -209,11 +210,10 @@ module _ (n : ℕ) (text : List ℕ) where
   capitals t e f h = absurd (true≢false (sym (hex_small text h) ∙ sym e ∙ f))
 
   pub no_capitals : (t : Bool) → t ≡ list_all is_small text → t ≡ true → (o : Option (List ℕ)) → o ≡ bytes_of n text → Answers o
-  unfolding bytes_of
   no_capitals t e y o q =
       let is : o ≡ cond (leb (length text) (2 * n))
       (option_and_then (λ bytes. Some (bytes ++ drop (length bytes) (replicate n 0))) (cond (is_hex text) (Some (pairs_of text)) None)) None =
-      q ∙ rw (bytes_small [] text (sym e ∙ y)) in
+      q ∙ bytes_are n text ∙ rw (bytes_small [] text (sym e ∙ y)) in
       by (leb (length text) (2 * n))
       (λ p.
       by (is_hex text)

@@ -1,13 +1,12 @@
 -- `compress_in` meets its contract: a number that is no mode's is refused behind the salt, and any other names the mode. Assumes nothing.
+use Rattle.echo.proofs.Promises.{handed_on}
 use Rattle.std.specs.Prelude.{false, refl, true}
-use Rattle.std.proofs.lemmas.Result.{err_from_is_err_and}
 use Rattle.bahmorist.proofs.Laws.Modes.{compress_left_on, compress_no_mode, compress_passed_on, no_mode_keeps}
 use Rattle.bahmorist.proofs.in_modes.compress_in.Goals as goal
 
 pub returns-in_err-named-clause-refusal : goal.returns-in_err-named-clause-refusal
 returns-in_err-named-clause-refusal c =
-    let p = err_from_is_err_and c.from_residual.result c.from_residual.ensures.1 in
-    rw (p.1, p.2) (compress_no_mode _ _ _ _ _ true c.in_err-named.ensures.0 refl _ c.in_err-named.ensures.1)
+    rw (handed_on c.from_residual.result _ c.from_residual.ensures) (compress_no_mode _ _ _ _ _ true c.in_err-named.ensures.0 refl _ c.in_err-named.ensures.1)
 
 pub returns-in_err-named-clause-left : goal.returns-in_err-named-clause-left
 returns-in_err-named-clause-left c = no_mode_keeps _ _ _ _ _ true c.in_err-named.ensures.0 refl

@@ -1,14 +1,12 @@
 -- `digest_bits_in` meets its contract: a number that is no mode's is refused behind 1, 2, 4 and 5, and any other names the mode. Assumes nothing.
 use Rattle.std.specs.Prelude.{false, refl, true}
-use Rattle.std.proofs.lemmas.Result.{err_from_is_err_and}
-use Rattle.echo.proofs.Promises.{some}
+use Rattle.echo.proofs.Promises.{handed_on, some}
 use Rattle.bahmorist.proofs.Laws.Modes.{bits_6, bits_left_on, bits_less, bits_no_mode_leaves, bits_passed_on}
 use Rattle.bahmorist.proofs.in_modes.digest_bits_in.Goals as goal
 
 pub returns-in_err-check_digest-clause-refusal : goal.returns-in_err-check_digest-clause-refusal
 returns-in_err-check_digest-clause-refusal c =
-    let p = err_from_is_err_and c.from_residual.result c.from_residual.ensures.1 in
-    rw (p.1, p.2) (bits_less _ _ _ _ _ _ true c.in_default.ensures refl _ c.in_err-check_digest.ensures (some c.in_err-check_digest.field-0.0))
+    rw (handed_on c.from_residual.result _ c.from_residual.ensures) (bits_less _ _ _ _ _ _ true c.in_default.ensures refl _ c.in_err-check_digest.ensures (some c.in_err-check_digest.field-0.0))
 
 pub returns-in_err-check_digest-clause-left : goal.returns-in_err-check_digest-clause-left
 returns-in_err-check_digest-clause-left c = bits_no_mode_leaves _ _ _ _ _ _ true c.in_default.ensures refl

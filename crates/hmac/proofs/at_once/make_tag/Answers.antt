@@ -1,7 +1,6 @@
 -- `make_tag` meets its contract: an opening, one piece and a reading, each of which may refuse. Assumes nothing.
 use Rattle.std.proofs.Common.{Ok, Err, refl}
-use Rattle.std.proofs.lemmas.Result.{err_from_is_err_and}
-use Rattle.echo.proofs.Promises.{some}
+use Rattle.echo.proofs.Promises.{handed_on, some}
 use Rattle.hmac.specs.Answers.{tag_answer_of}
 use Rattle.hmac.proofs.Laws.AtOnce.{left_not_added, left_not_opened, left_reads, make_not_added, make_not_opened, make_reads}
 use Rattle.hmac.proofs.at_once.make_tag.Goals as goal
@@ -9,8 +8,7 @@ use Rattle.hmac.proofs.at_once.make_tag.Goals as goal
 pub returns-in_err-opened-clause-refusal : goal.returns-in_err-opened-clause-refusal
 returns-in_err-opened-clause-refusal c =
     let q = c.in_err-opened.field-0.0 in
-    let p = err_from_is_err_and c.from_residual.result c.from_residual.ensures.1 in
-    rw (p.1, p.2) (make_not_opened _ _ _ _ (tag_answer_of (Err q)) c.in_err-opened.ensures _ (some q.refusal))
+    rw (handed_on c.from_residual.result _ c.from_residual.ensures) (make_not_opened _ _ _ _ (tag_answer_of (Err q)) c.in_err-opened.ensures _ (some q.refusal))
 
 pub returns-in_err-opened-clause-left : goal.returns-in_err-opened-clause-left
 returns-in_err-opened-clause-left c =
@@ -20,8 +18,7 @@ returns-in_err-opened-clause-left c =
 pub returns-in_err-whole-clause-refusal : goal.returns-in_err-whole-clause-refusal
 returns-in_err-whole-clause-refusal c =
     let q = c.in_err-whole.field-0.0 in
-    let p = err_from_is_err_and c.from_residual-in_err-whole.result c.from_residual-in_err-whole.ensures.1 in
-    rw (p.1, p.2) (make_not_added _ _ _ _ (tag_answer_of (Ok c.in_ok-opened.opened)) c.in_ok-opened.ensures _ refl (tag_answer_of (Err q)) c.in_err-whole.ensures (some q.refusal))
+    rw (handed_on c.from_residual-in_err-whole.result _ c.from_residual-in_err-whole.ensures) (make_not_added _ _ _ _ (tag_answer_of (Ok c.in_ok-opened.opened)) c.in_ok-opened.ensures _ refl (tag_answer_of (Err q)) c.in_err-whole.ensures (some q.refusal))
 
 pub returns-in_err-whole-clause-left : goal.returns-in_err-whole-clause-left
 returns-in_err-whole-clause-left c =
@@ -31,8 +28,7 @@ returns-in_err-whole-clause-left c =
 pub returns-in_err-read-clause-refusal : goal.returns-in_err-read-clause-refusal
 returns-in_err-read-clause-refusal c =
     let q = c.in_err-read.field-0.0 in
-    let p = err_from_is_err_and c.from_residual-in_err-read.result c.from_residual-in_err-read.ensures.1 in
-    rw (p.1, p.2)
+    rw (handed_on c.from_residual-in_err-read.result _ c.from_residual-in_err-read.ensures)
     (make_reads _ _ _ _ (tag_answer_of (Ok c.in_ok-opened.opened)) c.in_ok-opened.ensures _ refl (tag_answer_of (Ok c.in_ok-whole.whole)) c.in_ok-whole.ensures refl (tag_answer_of (Err q))
     c.in_err-read.ensures.answer)
 

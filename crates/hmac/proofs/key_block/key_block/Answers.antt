@@ -1,13 +1,12 @@
 -- `key_block` meets its contract: a long key is digested, any other is copied. Assumes nothing.
+use Rattle.echo.proofs.Promises.{handed_on}
 use Rattle.std.proofs.Common.{sym}
-use Rattle.std.proofs.lemmas.Result.{err_from_is_err_and}
 use Rattle.hmac.proofs.Laws.KeyBlock.{copied_block, copied_number, digested_block, digested_number, key_within, room_for}
 use Rattle.hmac.proofs.key_block.key_block.Goals as goal
 
 pub returns-in_err-digest-clause-refusal_value : goal.returns-in_err-digest-clause-refusal_value
 returns-in_err-digest-clause-refusal_value c =
-    let p = err_from_is_err_and c.from_residual.result c.from_residual.ensures.1 in
-    rw (p.1, p.2) (digested_number _ _ _ c.requires.bits_value c.requires.salt_len _ c.block_size.ensures _ c.in_err-digest.ensures.refusal)
+    rw (handed_on c.from_residual.result _ c.from_residual.ensures) (digested_number _ _ _ c.requires.bits_value c.requires.salt_len _ c.block_size.ensures _ c.in_err-digest.ensures.refusal)
 
 pub returns-then-block_size-n-clause-refusal_value : goal.returns-then-block_size-n-clause-refusal_value
 returns-then-block_size-n-clause-refusal_value c = search (digested_number, c.in_ok-digest.ensures.refusal)

@@ -1,13 +1,12 @@
 -- `count` meets its contract, a case for each reading. Assumes nothing.
-use Rattle.std.proofs.lemmas.Result.{err_from_is_err_and}
+use Rattle.echo.proofs.Promises.{handed_on}
 use Rattle.steering.proofs.Laws.Parsing.{count_end, count_next, count_stop}
 use Rattle.steering.proofs.Laws.Reading.{less_left}
 use Rattle.steering.proofs.counting.count.Goals as goal
 
 pub returns-in_err-next : goal.returns-in_err-next
 returns-in_err-next c =
-    let p = err_from_is_err_and c.from_residual.result c.from_residual.ensures.1 in
-    rw (p.1, p.2) (search (count_stop, c.in_err-next.ensures))
+    rw (handed_on c.from_residual.result _ c.from_residual.ensures) (search (count_stop, c.in_err-next.ensures))
 
 pub loop-next-smaller : goal.loop-next-smaller
 loop-next-smaller c = let e = rw c.in-Some.is at c.in_ok-next.ensures in search (less_left, e)

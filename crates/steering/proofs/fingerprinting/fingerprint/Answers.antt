@@ -1,13 +1,12 @@
 -- `fingerprint` meets its contract, a case for each return. Assumes nothing.
-use Rattle.std.proofs.lemmas.Result.{err_from_is_err_and}
+use Rattle.echo.proofs.Promises.{handed_on}
 use Rattle.steering.proofs.Laws.Answers.{refuses}
 use Rattle.steering.proofs.Laws.Fingerprint.{left_digest, left_refused}
 use Rattle.steering.proofs.fingerprinting.fingerprint.Goals as goal
 
 pub returns-in_err-refusal_of-clause-answer : goal.returns-in_err-refusal_of-clause-answer
 returns-in_err-refusal_of-clause-answer c =
-    let p = err_from_is_err_and c.from_residual.result c.from_residual.ensures.1 in
-    rw (p.1, p.2) (search c.in_err-refusal_of.ensures)
+    rw (handed_on c.from_residual.result _ c.from_residual.ensures) (search c.in_err-refusal_of.ensures)
 
 pub returns-in_err-refusal_of-clause-left : goal.returns-in_err-refusal_of-clause-left
 returns-in_err-refusal_of-clause-left c = search (left_refused, refuses, c.in_err-refusal_of.ensures)

@@ -1,5 +1,5 @@
 -- `refusal_of` meets its contract, a case for each return. Assumes nothing.
-use Rattle.std.proofs.lemmas.Result.{err_from_is_err_and}
+use Rattle.echo.proofs.Promises.{handed_on}
 use Rattle.steering.proofs.Laws.Fingerprint.{print_2, print_5, print_accepted, print_refused}
 use Rattle.steering.proofs.fingerprinting.refusal_of.Goals as goal
 
@@ -11,8 +11,7 @@ returns-then-room-lt32 c = search print_5
 
 pub returns-in_err-count : goal.returns-in_err-count
 returns-in_err-count c =
-    let p = err_from_is_err_and c.from_residual.result c.from_residual.ensures.1 in
-    rw (p.1, p.2) (search (print_refused, c.in_err-count.ensures))
+    rw (handed_on c.from_residual.result _ c.from_residual.ensures) (search (print_refused, c.in_err-count.ensures))
 
 pub returns : goal.returns
 returns c = search (print_accepted, c.in_ok-count.ensures)

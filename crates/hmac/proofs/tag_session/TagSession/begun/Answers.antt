@@ -1,12 +1,11 @@
 -- `begun` meets its contract, a case for each return. Assumes nothing.
-use Rattle.std.proofs.lemmas.Result.{err_from_is_err_and}
+use Rattle.echo.proofs.Promises.{handed_on}
 use Rattle.hmac.proofs.Laws.Opening.{bits_pass, fresh_is_empty, fresh_is_session, key_number, opened_keyed, opening_refused, salt_passes}
 use Rattle.hmac.proofs.tag_session.TagSession.begun.Goals as goal
 
 pub returns-in_err-fresh-clause-refusal : goal.returns-in_err-fresh-clause-refusal
 returns-in_err-fresh-clause-refusal c =
-    let p = err_from_is_err_and c.from_residual.result c.from_residual.ensures.1 in
-    rw (p.1, p.2) (opening_refused _ _ _ c.in_err-fresh.field-0.0 c.in_err-fresh.ensures)
+    rw (handed_on c.from_residual.result _ c.from_residual.ensures) (opening_refused _ _ _ c.in_err-fresh.field-0.0 c.in_err-fresh.ensures)
 
 pub key_block-requires-clause-bits_value : goal.key_block-requires-clause-bits_value
 key_block-requires-clause-bits_value c = bits_pass _ _ c.args.key.now _ c.in_ok-fresh.ensures
@@ -16,8 +15,7 @@ key_block-requires-clause-salt_len c = salt_passes _ _ c.args.key.now _ c.in_ok-
 
 pub returns-in_err-block-clause-refusal : goal.returns-in_err-block-clause-refusal
 returns-in_err-block-clause-refusal c =
-    let p = err_from_is_err_and c.from_residual-in_err-block.result c.from_residual-in_err-block.ensures.1 in
-    rw (p.1, p.2) (key_number _ _ _ _ c.in_ok-fresh.ensures _ c.in_err-block.ensures.refusal_value)
+    rw (handed_on c.from_residual-in_err-block.result _ c.from_residual-in_err-block.ensures) (key_number _ _ _ _ c.in_ok-fresh.ensures _ c.in_err-block.ensures.refusal_value)
 
 pub keyed-requires-clause-fresh_value : goal.keyed-requires-clause-fresh_value
 keyed-requires-clause-fresh_value c = fresh_is_session _ _ c.args.key.now _ c.in_ok-fresh.ensures

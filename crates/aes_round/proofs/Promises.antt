@@ -19,7 +19,7 @@ use Rattle.std.specs.Fn.{Called, Mut}
 use Rattle.aes_round.specs.declared.rows.RowTables.{RowTables}
 use Rattle.aes_round.specs.Array.{array, column, entry}
 use Rattle.aes_round.specs.ByTables.{mix_numbers, row_table, row_tables, table_round}
-use Rattle.aes_round.specs.Bytes.{Bytes, tab, xor, xor_bytes}
+use Rattle.aes_round.specs.Bytes.{Bytes, tab, tab_from, xor, xor_bytes}
 use Rattle.aes_round.specs.Mixing.{backward, forward, mix_column}
 use Rattle.aes_round.specs.Numbers.{byte_of, bytes_of, number, numbers}
 use Rattle.aes_round.specs.Rounds.{aes_round, aes_round_back, mix_columns, shift_rows, shift_rows_back}
@@ -52,6 +52,10 @@ lt_or_le = bytes.lt_or_le
 pub tab_none : (f : ℕ → ℕ) → tab 0 f ≡ []
 unfolding tab
 tab_none f = refl
+
+pub tab_whole : (n : ℕ) (f : ℕ → ℕ) → tab_from 0 n f ≡ tab n f
+unfolding tab
+tab_whole n f = refl
 
 pub length-tab : (n : ℕ) (f : ℕ → ℕ) → length (tab n f) ≡ n
 length-tab = bytes.length-tab

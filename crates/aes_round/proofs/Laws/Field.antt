@@ -108,8 +108,12 @@ unfolding stepped
 turn s p x t d hp hx e h =
     xor_assoc _ _ _ ∙ ap (λ (k : ℕ). xor s (xor (k * x) (mul (p / 2) (mul 2 x)))) (sym e) ∙ ap (xor s) (sym (mul_step p x hp hx)) ∙ h
 
-pub turn_1 : (s p x t : ℕ) → p < 256 → x < 256 → p % 2 ≡ 1 → xor s (mul p x) ≡ t → xor (xor s x) (mul (p / 2) (mul 2 x)) ≡ t
-turn_1 s p x t hp hx e h = rw one-mul at (turn s p x t 1 hp hx e h)
+pub turn_1 : (s p x t : ℕ) → (p < 256) × (x < 256) × (xor s (mul p x) ≡ t) → p % 2 ≡ 1 → xor (xor s x) (mul (p / 2) (mul 2 x)) ≡ t
+turn_1 s p x t left e = rw one-mul at (turn s p x t 1 left.0 left.1 e left.2)
 
-pub turn_0 : (s p x t : ℕ) → p < 256 → x < 256 → p % 2 ≡ 0 → xor s (mul p x) ≡ t → xor s (mul (p / 2) (mul 2 x)) ≡ t
-turn_0 s p x t hp hx e h = rw (zero-mul, xor_zero_r) at (turn s p x t 0 hp hx e h)
+pub turn_0 : (s p x t : ℕ) → (p < 256) × (x < 256) × (xor s (mul p x) ≡ t) → p % 2 ≡ 0 → xor s (mul (p / 2) (mul 2 x)) ≡ t
+turn_0 s p x t left e = rw (zero-mul, xor_zero_r) at (turn s p x t 0 left.0 left.1 e left.2)
+
+-- and no digit left
+pub no_turn : (s p x t : ℕ) → (p < 256) × (x < 256) × (xor s (mul p x) ≡ t) → p ≡ 0 → s ≡ t
+no_turn s p x t left z = sym (xor_zero_r s) ∙ ap (xor s) (sym (ap (λ (k : ℕ). mul k x) z ∙ mul_zero_l x)) ∙ left.2

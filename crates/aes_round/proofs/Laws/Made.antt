@@ -30,7 +30,8 @@ pub made : {F : Type 0} (g : Mut F (ℕ × Unit {0}) ℕ) (n : ℕ) (h : ℕ →
 made g n h f call ys r = is_tab n ys h r.long (made_at g n h f call ys 0 r)
 
 -- by an array's `map`, with a closure that gives h x of each x and stays as it is
-module _ {F : Type 0} (g : Mut F (ℕ × Unit {0}) ℕ) (n : ℕ) (h : ℕ → ℕ) (f : F) (call : (x y : ℕ) (f' : F) → Called g f (x, tt) y f' → (y ≡ h x) × (f' ≡ f)) where
+module _ {F : Type 0} (g : Mut F (ℕ × Unit {0}) ℕ) (n : ℕ) (h : ℕ → ℕ) (f : F)
+    (call : (x y : ℕ) (f' : F) → Called g f (x, tt) y f' → (y ≡ h x) × (f' ≡ f)) where
   mapped_from : (xs ys : List ℕ) (m i : ℕ) (p : F) → p ≡ f → i + m ≡ n → MapsFrom g p xs ys i m → (k : ℕ) → i ≤ k → k < n → get_or ys k 0 ≡ h (get_or xs k 0)
   mapped_from xs ys zero i p e s r k l u = absurd (omega arith)
   mapped_from xs ys (suc m) i p e s r k l u =

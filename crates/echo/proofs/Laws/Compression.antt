@@ -77,18 +77,22 @@ module _ (c : ℕ) (v₀ src : List ℕ) where
   }
 
   module _ (j size : ℕ) (rest v : List ℕ) (P : Parts c v₀ src j size rest v) where
-    -- one part more
-    pub parts_more : length v ≡ c → (j' size' : ℕ) (part rest' r : List ℕ) → j' ≡ j + 1 → size' ≡ size → rest ≡ part ++ rest' → length part ≡ size → r ≡ xor_bytes (length v) v part
+    -- one part more, by what the iterator ensures of a step, of which B is not needed here
+    pub parts_more : {B : Type 0} → length v ≡ c → (j' size' : ℕ) (part rest' r : List ℕ) → j' ≡ j + 1
+        → (size' ≡ size) × ((rest ≡ part ++ rest') × (length part ≡ size)) × B → r ≡ xor_bytes (length v) v part
         → Parts c v₀ src j' size' rest' r
-    parts_more lv j' size' part rest' r count s cut lp x = subst (λ (k : ℕ). Parts c v₀ src k size' rest' r) (sym count) record {
-      sized = s ∙ P.sized;
+    parts_more lv j' size' part rest' r count steps x = subst (λ (k : ℕ). Parts c v₀ src k size' rest' r) (sym count) record {
+      sized = steps.0 ∙ P.sized;
       within = omega (arith, next, long, lc);
       left = sym (drop_at part rest' c lc) ∙ ap (drop c) (sym cut ∙ P.left) ∙ drop-drop c (c * j) src ∙ ap (λ (k : ℕ). drop k src) (sym next);
       folded = next_part_in c v₀ src j v P.folded lv part r (sym (take_at part rest' c lc) ∙ ap (take c) (sym cut ∙ P.left)) x;
     }
       where
+        cut : rest ≡ part ++ rest'
+        cut = steps.1.0
+
         lc : length part ≡ c
-        lc = lp ∙ P.sized
+        lc = steps.1.1 ∙ P.sized
 
         next : c * (j + 1) ≡ c * j + c
         next = ap (λ (k : ℕ). c * k) (add-one j) ∙ mul-suc c j

@@ -380,14 +380,17 @@ module _ (mode : Mode) (h L b k : ℕ) (size : b ≡ block_size mode h) (counter
     two_left over t r first second =
         ap (take (chaining_size mode h))
         (second
-        ∙ ap (λ (u : Session). compressed u.mode u.bits u.salt u.chaining 0 (take (block_size u.mode u.bits - 18) (replicate 224 0) ++ lengths_of u.bits u.taken)) first)
+        ∙ ap (λ (u : Session).
+        compressed u.mode u.bits u.salt u.chaining 0 (take (block_size u.mode u.bits - 18) (replicate 224 0) ++ lengths_of u.bits u.taken))
+        first)
         ∙ final_two mode h L salt v w lw z (subst (λ (x : ℕ). x < L / 8 % x + 19) size over)
         (compressed mode h salt v k (take (block_size mode h) (set w (L / 8 % b) y)))
         (ap₂ (λ (x : ℕ) (l : List ℕ). compressed mode h salt v x (take (block_size mode h) l)) counter_is begun_is)
 
 -- the same of a session
 module _ (s : Session) (b k y : ℕ) (size : b ≡ block_of s) (counter : k ≡ either (eqb (s.taken % (8 * b)) 0) 0 s.taken) (lw : length s.waiting ≡ 224)
-    (z : all_zero (drop (s.taken % (8 * block_of s)) (bits_of s.waiting)) ≡ true) (mark : y ≡ get_or s.waiting (s.taken / 8 % b) 0 + 2 ^ (7 - s.taken % 8)) where
+    (z : all_zero (drop (s.taken % (8 * block_of s)) (bits_of s.waiting)) ≡ true)
+    (mark : y ≡ get_or s.waiting (s.taken / 8 % b) 0 + 2 ^ (7 - s.taken % 8)) where
   pub ends_in_one : s.taken / 8 % b + 19 ≤ b → (u : List ℕ)
       → u ≡ compressed s.mode s.bits s.salt s.chaining k (take (block_of s - 18) (set s.waiting (s.taken / 8 % b) y) ++ lengths_of s.bits s.taken)
       → take (chaining_of s) u ≡ final_chaining s
@@ -395,7 +398,8 @@ module _ (s : Session) (b k y : ℕ) (size : b ≡ block_of s) (counter : k ≡ 
   ends_in_one = one_left s.mode s.bits s.taken b k size counter s.salt s.chaining s.waiting lw z y mark
 
   pub ends_in_two : b < s.taken / 8 % b + 19 → (t : Session) (r : List ℕ)
-      → t ≡ made s.mode s.bits s.salt (compressed s.mode s.bits s.salt s.chaining k (take (block_of s) (set s.waiting (s.taken / 8 % b) y))) s.taken (set s.waiting (s.taken / 8 % b) y)
+      → t ≡ made s.mode s.bits s.salt (compressed s.mode s.bits s.salt s.chaining k (take (block_of s) (set s.waiting (s.taken / 8 % b) y))) s.taken
+      (set s.waiting (s.taken / 8 % b) y)
       → r ≡ compressed t.mode t.bits t.salt t.chaining 0 (take (block_of t - 18) (replicate 224 0) ++ lengths_of t.bits t.taken)
       → take (chaining_of s) r ≡ final_chaining s
   unfolding final_chaining

@@ -40,14 +40,17 @@ size = little_are 2 256 (0x00 ∷ 0x01 ∷ []) refl tt
 
 pub empty_padded : packed (pad msize 256 (bits_of [])) ≡ 0x80 ∷ (replicate 173 0 ++ (0x00 ∷ 0x01 ∷ replicate 16 0))
 unfolding block_size chaining_size
-empty_padded = pad_bytes 192 (lit< tt) 256 [] ∙ ap (λ (e : List ℕ). 0x80 ∷ (replicate 173 0 ++ e)) (ap₂ (λ (h l : List ℕ). h ++ l) size (little_are 16 0 (replicate 16 0) refl tt))
+empty_padded =
+    pad_bytes 192 (lit< tt) 256 []
+    ∙ ap (λ (e : List ℕ). 0x80 ∷ (replicate 173 0 ++ e)) (ap₂ (λ (h l : List ℕ). h ++ l) size (little_are 16 0 (replicate 16 0) refl tt))
 
 pub abc_padded : packed (pad msize 256 (bits_of (0x61 ∷ 0x62 ∷ 0x63 ∷ [])))
     ≡ 0x61 ∷ 0x62 ∷ 0x63 ∷ 0x80 ∷ (replicate 170 0 ++ (0x00 ∷ 0x01 ∷ 0x18 ∷ replicate 15 0))
 unfolding block_size chaining_size
 abc_padded =
     pad_bytes 192 (lit< tt) 256 (0x61 ∷ 0x62 ∷ 0x63 ∷ [])
-    ∙ ap (λ (e : List ℕ). 0x61 ∷ 0x62 ∷ 0x63 ∷ 0x80 ∷ (replicate 170 0 ++ e)) (ap₂ (λ (h l : List ℕ). h ++ l) size (little_are 16 24 (0x18 ∷ replicate 15 0) refl tt))
+    ∙ ap (λ (e : List ℕ). 0x61 ∷ 0x62 ∷ 0x63 ∷ 0x80 ∷ (replicate 170 0 ++ e))
+    (ap₂ (λ (h l : List ℕ). h ++ l) size (little_are 16 24 (0x18 ∷ replicate 15 0) refl tt))
 
 -- 1391 bits fill one block with their padding, and 1392 need a second; so on each side of the edge in the other sizes
 pub last_of_one_block : Hold

@@ -6,7 +6,7 @@ use lib.ListN.{get_or-replicate}
 use Rattle.std.specs.Int.{byte_at, bytes_low_first}
 use borrow.Rule.Slice.PartMut.{put_mid}
 use Rattle.aes_round.specs.Bytes.{Bytes, tab, tab_from}
-use Rattle.aes_round.proofs.Promises.{agree, bytes_are, every, get_or-tab, is_tab, length-tab, lt_or_le, tab_bytes}
+use Rattle.aes_round.proofs.Promises.{agree, bytes_are, every, get_or-tab, is_tab, length-tab, lt_or_le, tab_bytes, tab_whole}
 use Rattle.echo.specs.Numbers.{little_endian}
 use Rattle.echo.specs.Numbers.{halves}
 use Rattle.echo.specs.Square.{counter_key, wide_key}
@@ -35,8 +35,8 @@ low_first i (suc n) x = ap₂ (λ (b : ℕ) (l : List ℕ). b ∷ l) (byte i) (l
     byte (suc i) = refl
 
 pub le_bytes_are : (n x : ℕ) → bytes_low_first 0 n x ≡ little_endian n x
-unfolding little_endian tab
-le_bytes_are n x = low_first 0 n x
+unfolding little_endian
+le_bytes_are n x = low_first 0 n x ∙ tab_whole n _
 
 -- bytes written in two parts, the second over zeros
 pub two_parts : (m n : ℕ) (x y z : List ℕ) → length x ≡ m → length z ≡ n → put_mid m n (x ++ z) y ≡ x ++ y

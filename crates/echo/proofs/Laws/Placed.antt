@@ -76,5 +76,6 @@ part_placed l w at n h e = record {
 
 pub part_bytes : (src r : List ℕ) (at n : ℕ) → r ≡ between at (at + n) src → at + n ≤ length src → r ≡ tab n (λ k. get_or src (at + k) 0)
 part_bytes src r at n e h =
-    e ∙ is_tab n (between at (at + n) src) _ (length-take-le (at + n - at) (drop at src) (omega (arith, length-drop at src)) ∙ (let long : at + n - at ≡ n = omega arith in long))
+    e ∙ is_tab n (between at (at + n) src) _
+    (length-take-le (at + n - at) (drop at src) (omega (arith, length-drop at src)) ∙ (let long : at + n - at ≡ n = omega arith in long))
     (λ k lt. get_or-between src at (at + n) k 0 (omega arith))

@@ -31,14 +31,16 @@ length_back = length_shift_back 16
 
 -- ---- a word that becomes the next one of its row
 
-pub pulled : (l r : List ℕ) (e : ℕ) → length r ≡ length l → CopiedTo l r (16 * (e + 4)) (16 * e) (16 * (e + 5) - 16 * (e + 4)) → SameBelow l r (16 * e)
-    → SameFrom l r (16 * e + (16 * (e + 5) - 16 * (e + 4))) → Placed l (16 * e) (word l (e + 4)) 16 r
-pulled l r e long copied below from = record {
+pub pulled : (l r : List ℕ) (e : ℕ) → length r ≡ length l
+    → CopiedTo l r (16 * (e + 4)) (16 * e) (16 * (e + 5) - 16 * (e + 4)) × SameBelow l r (16 * e) × SameFrom l r (16 * e + (16 * (e + 5) - 16 * (e + 4)))
+    → Placed l (16 * e) (word l (e + 4)) 16 r
+pulled l r e long by_index = record {
   long = long;
-  before = λ k h. below k 0 h;
+  before = λ k h. by_index.1 k 0 h;
   inside = λ k h.
-      copied (16 * e + k) 0 (omega arith) (omega arith) ∙ ap (λ (i : ℕ). get_or l i 0) (place k) ∙ sym (entry_is 16 l (e + 4) k) ∙ sym (get_or-word l (e + 4) k h);
-  behind = λ k h. from k 0 (omega arith);
+      by_index.0 (16 * e + k) 0 (omega arith) (omega arith) ∙ ap (λ (i : ℕ). get_or l i 0) (place k)
+      ∙ sym (entry_is 16 l (e + 4) k) ∙ sym (get_or-word l (e + 4) k h);
+  behind = λ k h. by_index.2 k 0 (omega arith);
 }
   where
     place : (k : ℕ) → 16 * (e + 4) + (16 * e + k - 16 * e) ≡ 16 * (e + 4) + k

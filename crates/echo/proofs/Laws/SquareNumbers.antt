@@ -4,8 +4,8 @@ use borrow.Rule.Slice.PartMut.{put_mid}
 use Rattle.std.specs.Int.{bytes_low_first}
 use Rattle.aes_round.specs.Bytes.{tab}
 use Rattle.aes_round.specs.Numbers.{byte_of, bytes_of, number, numbers}
-use Rattle.aes_round.proofs.Promises.{Filled, are_bytes_of, byte_of_numbers, bytes_of_bytes, fill_all, four_numbers, get_or-numbers}
-use Rattle.aes_round.proofs.Promises.{get_or-tab, length-tab, number_ext, number_of_lem, same_list}
+use Rattle.aes_round.proofs.Promises.{Filled, are_bytes_of, are_numbers, byte_is, byte_of_numbers, bytes_of_bytes, fill_all, four_numbers, get_or-numbers}
+use Rattle.aes_round.proofs.Promises.{get_or-tab, length-tab, number_ext, number_of_lem, same_list, tab_ext}
 use Rattle.echo.specs.Numbers.{little_endian}
 use Rattle.echo.specs.Placed.{Placed}
 use Rattle.echo.specs.Square.{word}
@@ -31,8 +31,7 @@ abbrev pub number_of : List ℕ → ℕ → ℕ
 number_of s k = number (λ p. get_or s (4 * k + p) 0)
 
 pub numbers_made : (n : ℕ) (s : List ℕ) → tab n (number_of s) ≡ numbers n s
-unfolding numbers
-numbers_made n s = refl
+numbers_made n s = are_numbers n s (tab n (number_of s)) (length-tab n _) (get_or-tab n _)
 
 pub square_numbers : (s l r : List ℕ) (k : ℕ) → Filled 64 (number_of s) l k r → 64 ≤ k → r ≡ numbers 64 s
 square_numbers s l r k F h = fill_all 64 (number_of s) l k r F h ∙ numbers_made 64 s
@@ -41,8 +40,8 @@ square_numbers s l r k F h = fill_all 64 (number_of s) l k r F h ∙ numbers_mad
 
 -- a number's four bytes, stored where they belong
 stored_bytes : (x : ℕ) → bytes_low_first 0 4 x ≡ tab 4 (byte_of x)
-unfolding little_endian byte_of
-stored_bytes = le_bytes_are 4
+unfolding little_endian
+stored_bytes x = le_bytes_are 4 x ∙ tab_ext 4 _ _ (λ p h. sym (byte_is x p))
 
 pub number_put : (s y : List ℕ) (at x : ℕ) → y ≡ bytes_low_first 0 4 x → at + 4 ≤ length s → Placed s at (tab 4 (byte_of x)) 4 (put_mid at (at + 4 - at) s y)
 number_put s y at x e h =

@@ -54,7 +54,8 @@ module _ (s : Session) (at b : ℕ) (place : at ≡ s.taken / 8 % block_of s) (s
 
   -- a byte that fills the block: t is the session when it is compressed
   module _ (h : b ≤ at + 1) (x : ℕ) (t : Session)
-      (e : t ≡ made s.mode s.bits s.salt (compressed s.mode s.bits s.salt s.chaining (s.taken + 8) (take (block_of s) (set s.waiting at x))) (s.taken + 8) (set s.waiting at x)) where
+      (e : t ≡ made s.mode s.bits s.salt (compressed s.mode s.bits s.salt s.chaining (s.taken + 8) (take (block_of s) (set s.waiting at x))) (s.taken + 8)
+      (set s.waiting at x)) where
     fills : s.taken / 8 % block_of s + 1 ≡ block_of s
     fills = omega (arith, mod-lt (s.taken / 8) (block_pos s.mode s.bits))
 
@@ -91,12 +92,18 @@ module _ (s₀ : Session) (piece : List ℕ) (n : ℕ) where
   absorb_none b size = record { within = omega arith; taken = sym (add-zero s₀.taken); place = ap (λ (x : ℕ). s₀.taken / 8 % x) size; leads = refl }
 
   module _ (i : ℕ) (s : Session) (at : ℕ) (A : Absorbed s₀ piece n i s at) where
+    pub absorb_place : at ≡ s.taken / 8 % block_of s
+    absorb_place = A.place
+
+    pub absorb_small : at < 224
+    absorb_small = place_small s.mode s.bits s.taken at A.place
+
     -- one more is within the limit
     pub absorb_room : (count : ℕ) → n ≡ count / 8 → s₀.taken + count ≤ bit_limit → i < n → s.taken + 8 ≤ bit_limit
     absorb_room count whole fits h = omega (arith, A.taken)
 
-    pub absorb_more : n ≤ length piece → i < length (take n piece) → (x at' : ℕ) (t : Session) → x ≡ get_or (take n piece) i 0 → t ≡ add_byte s x → at' ≡ t.taken / 8 % block_of t
-        → Absorbed s₀ piece n (i + 1) t at'
+    pub absorb_more : n ≤ length piece → i < length (take n piece) → (x at' : ℕ) (t : Session) → x ≡ get_or (take n piece) i 0
+        → t ≡ add_byte s x → at' ≡ t.taken / 8 % block_of t → Absorbed s₀ piece n (i + 1) t at'
     unfolding add_bytes
     absorb_more few inside x at' t here e p =
         let rest : drop i (take n piece) ≡ x ∷ drop (i + 1) (take n piece) =
@@ -133,7 +140,8 @@ module _ (s₀ : Session) (piece : List ℕ) (n : ℕ) where
             by zero e = absurd (some e)
             by (suc r) e = omega arith
 
-        pub absorb_part : (L : ℕ) → L ≡ s₀.taken → made s.mode s.bits s.salt s.chaining (L + count) (set s.waiting at (get_or piece n 0)) ≡ add_bits s₀ piece count
+        pub absorb_part : (L : ℕ) → L ≡ s₀.taken
+            → made s.mode s.bits s.salt s.chaining (L + count) (set s.waiting at (get_or piece n 0)) ≡ add_bits s₀ piece count
         unfolding add_bits add_part
         absorb_part L kept =
             let sum : L + count ≡ s.taken + count % 8 = omega (arith, A.taken, A.within) in

@@ -122,7 +122,12 @@ module _ (body : List ℕ) (b : AreBytes body) where
   four : length body ≡ 32
       → bytes_of 8 (number_at 8 0 body) ++ bytes_of 8 (number_at 8 8 body) ++ bytes_of 8 (number_at 8 16 body) ++ bytes_of 8 (number_at 8 24 body) ≡ body
   four l =
-      rw (bytes_at 8 0 body (omega (arith, l)) b, bytes_at 8 8 body (omega (arith, l)) b, bytes_at 8 16 body (omega (arith, l)) b, bytes_at 8 24 body (omega (arith, l)) b)
+      rw (
+        bytes_at 8 0 body (omega (arith, l)) b,
+        bytes_at 8 8 body (omega (arith, l)) b,
+        bytes_at 8 16 body (omega (arith, l)) b,
+        bytes_at 8 24 body (omega (arith, l)) b,
+      )
       (ap (λ (l : List ℕ). l ++ take 8 (drop 16 body) ++ take 8 (drop 24 body)) (parts 0 body 8 8)
       ∙ ap (λ (l : List ℕ). l ++ take 8 (drop 24 body)) (parts 0 body 16 8)
       ∙ parts 0 body 24 8

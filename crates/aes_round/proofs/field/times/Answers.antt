@@ -1,7 +1,7 @@
 -- `times` meets its contract. The loop's invariant: the sum so far and the product that is left make the product asked for.
 -- The measure is p, which is halved. Assumes nothing.
 use mathlib.Core.Logic.{⊎_elim}
-use mathlib.Core.Path.{◌∙◌, ◌≡◌, ap, sym}
+use mathlib.Core.Path.{◌∙◌, ◌≡◌, sym}
 use Prim.Native.Nat.{◌%◌, ℕ}
 use native.Mathlib.Nat.{eq-or-lt_of_le, le_of_suc-le-suc, mod-lt}
 use native.Mathlib.Omega.{arith}
@@ -9,9 +9,8 @@ use lib.Dec.{lit<}
 use lib.Bits.{and_mask, bit_and}
 use borrow.Author.Rules.{rules}
 use Rattle.aes_round.specs.Bytes.{xor}
-use Rattle.aes_round.specs.Field.{mul}
-use Rattle.aes_round.proofs.Laws.Field.{mul_zero_l, turn_0, turn_1}
-use Rattle.aes_round.proofs.Laws.Xor.{xor_zero_l, xor_zero_r}
+use Rattle.aes_round.proofs.Laws.Field.{no_turn, turn_0, turn_1}
+use Rattle.aes_round.proofs.Laws.Xor.{xor_zero_l}
 use Rattle.aes_round.proofs.field.times.Goals as goal
 use Rattle.aes_round.proofs.field.times.Goals.{else-p-eq1, then-p-eq1}
 
@@ -29,13 +28,10 @@ loop-p-preserved c =
       search rules,
       search rules,
       elim c.if-p-eq1.branch [
-        | then-p-eq1 w ↦ cc (turn_1 L.sum L.p L.q _ L.invariant.0 L.invariant.1 (sym odd ∙ w.if-p-eq1.true) L.invariant.2)
-        | else-p-eq1 w ↦ cc (turn_0 L.sum L.p L.q _ L.invariant.0 L.invariant.1 (even L.p (λ e. w.if-p-eq1.false (odd ∙ e))) L.invariant.2)
+        | then-p-eq1 w ↦ cc (turn_1 L.sum L.p L.q _ L.invariant (sym odd ∙ w.if-p-eq1.true))
+        | else-p-eq1 w ↦ cc (turn_0 L.sum L.p L.q _ L.invariant (even L.p (λ e. w.if-p-eq1.false (odd ∙ e))))
       ],
     )
 
 pub returns : goal.returns
-returns c =
-    let L = c.loop-p in
-    let z : L.p ≡ 0 = omega arith in
-    sym (xor_zero_r L.sum) ∙ ap (xor L.sum) (sym (ap (λ (k : ℕ). mul k L.q) z ∙ mul_zero_l L.q)) ∙ L.invariant.2
+returns c = no_turn _ _ _ _ c.loop-p.invariant (omega arith)

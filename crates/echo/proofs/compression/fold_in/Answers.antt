@@ -15,8 +15,8 @@ xor_in-requires c = c.in-Some.ensures.steps.1.1 ∙ c.loop-part.invariant.sized 
 
 pub loop-part-preserved : goal.loop-part-preserved
 loop-part-preserved c =
-    let s = c.in-Some.ensures.steps in
-    parts_more _ _ _ _ _ _ _ c.loop-part.invariant c.loop-part.auto.v _ _ _ _ _ (length-append c.loop-part.yielded _) s.0 s.1.0 s.1.1 c.xor_in.ensures
+    parts_more _ _ _ _ _ _ _ c.loop-part.invariant c.loop-part.auto.v _ _ _ _ _ (length-append c.loop-part.yielded _)
+    c.in-Some.ensures.steps c.xor_in.ensures
 
 pub returns : goal.returns
 returns c = parts_all _ _ _ _ _ _ _ c.loop-part.invariant c.requires c.in-None.ensures.steps.1.0

@@ -10,30 +10,30 @@ returns-in_err-check_digest_bits-clause-left c = search (refused, c.in_err-check
 
 pub returns-in_err-opened-clause-refusal : goal.returns-in_err-opened-clause-refusal
 returns-in_err-opened-clause-refusal c =
-    absurd (opening_taken _ _ _ _ _ _ c.in_ok-check_digest_bits.ensures c.in_err-opened.field-0.0 c.in_err-opened.ensures)
+    absurd (opening_taken _ _ _ _ _ _ c.in_ok-check_digest_bits.ensures _ c.in_err-opened.ensures)
 
 pub returns-in_err-opened-clause-left : goal.returns-in_err-opened-clause-left
 returns-in_err-opened-clause-left c =
-    absurd (opening_taken _ _ _ _ _ _ c.in_ok-check_digest_bits.ensures c.in_err-opened.field-0.0 c.in_err-opened.ensures)
+    absurd (opening_taken _ _ _ _ _ _ c.in_ok-check_digest_bits.ensures _ c.in_err-opened.ensures)
 
 pub returns-in_err-whole-clause-refusal : goal.returns-in_err-whole-clause-refusal
 returns-in_err-whole-clause-refusal c =
-    absurd (adding_taken _ _ _ _ _ _ c.in_ok-check_digest_bits.ensures _ c.in_ok-opened.ensures c.in_err-whole.field-0.0 c.in_err-whole.ensures)
+    absurd (adding_taken _ _ _ _ _ _ c.in_ok-check_digest_bits.ensures _ c.in_ok-opened.ensures _ c.in_err-whole.ensures)
 
 pub returns-in_err-whole-clause-left : goal.returns-in_err-whole-clause-left
 returns-in_err-whole-clause-left c =
-    absurd (adding_taken _ _ _ _ _ _ c.in_ok-check_digest_bits.ensures _ c.in_ok-opened.ensures c.in_err-whole.field-0.0 c.in_err-whole.ensures)
+    absurd (adding_taken _ _ _ _ _ _ c.in_ok-check_digest_bits.ensures _ c.in_ok-opened.ensures _ c.in_err-whole.ensures)
 
 pub returns-in_err-read-clause-refusal : goal.returns-in_err-read-clause-refusal
 returns-in_err-read-clause-refusal c =
     absurd
-    (reading_taken _ _ _ _ _ _ c.in_ok-check_digest_bits.ensures _ c.in_ok-opened.ensures _ c.in_ok-whole.ensures c.in_err-read.field-0.0
+    (reading_taken _ _ _ _ _ _ c.in_ok-check_digest_bits.ensures _ c.in_ok-opened.ensures _ c.in_ok-whole.ensures _
     c.in_err-read.ensures.answer)
 
 pub returns-in_err-read-clause-left : goal.returns-in_err-read-clause-left
 returns-in_err-read-clause-left c =
     absurd
-    (reading_taken _ _ _ _ _ _ c.in_ok-check_digest_bits.ensures _ c.in_ok-opened.ensures _ c.in_ok-whole.ensures c.in_err-read.field-0.0
+    (reading_taken _ _ _ _ _ _ c.in_ok-check_digest_bits.ensures _ c.in_ok-opened.ensures _ c.in_ok-whole.ensures _
     c.in_err-read.ensures.answer)
 
 pub returns-clause-left : goal.returns-clause-left

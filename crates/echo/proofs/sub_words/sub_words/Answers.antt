@@ -8,4 +8,6 @@ use Rattle.echo.proofs.sub_words.sub_words.Goals as goal
 pub returns : goal.returns
 unfolding big_sub_words
 returns c =
-    c.each_word.ensures (λ w n. aes_round (aes_round w (wide_keys_from (halves c.args.counter.low c.args.counter.high) n)) c.args.salt) (λ w n t k. search rules)
+    c.each_word.ensures
+    (λ w n. aes_round (aes_round w (wide_keys_from (halves c.args.counter.low c.args.counter.high) n)) c.args.salt)
+    (λ w n t k. search rules)

@@ -8,4 +8,6 @@ use Rattle.echo.proofs.sub_words.sub_words_back.Goals as goal
 pub returns : goal.returns
 unfolding big_sub_words_back
 returns c =
-    c.each_word.ensures (λ w n. aes_round_back (aes_round_back w c.args.salt) (wide_keys_from (halves c.args.counter.low c.args.counter.high) n)) (λ w n t k. search rules)
+    c.each_word.ensures
+    (λ w n. aes_round_back (aes_round_back w c.args.salt) (wide_keys_from (halves c.args.counter.low c.args.counter.high) n))
+    (λ w n t k. search rules)

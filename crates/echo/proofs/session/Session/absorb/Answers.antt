@@ -1,6 +1,6 @@
 -- `absorb` meets its contract: a whole byte a turn and the part byte at the end. Assumes nothing.
 use Rattle.std.proofs.Common.{refl, ◌∙◌, arith, rules}
-use Rattle.echo.proofs.Laws.Waiting.{absorb_more, absorb_none, absorb_part, absorb_room, absorb_whole, part_inside, place_small, some_block}
+use Rattle.echo.proofs.Laws.Waiting.{absorb_more, absorb_none, absorb_part, absorb_place, absorb_room, absorb_small, absorb_whole, part_inside, some_block}
 use Rattle.echo.proofs.session.Session.absorb.Goals as goal
 
 pub nonzero_rem-at : goal.nonzero_rem-at
@@ -10,7 +10,7 @@ pub loop-x-init : goal.loop-x-init
 loop-x-init c = (search, search, search absorb_none)
 
 pub put-at-requires-clause-at_value : goal.put-at-requires-clause-at_value
-put-at-requires-clause-at_value c = c.loop-x.invariant.2.place
+put-at-requires-clause-at_value c = search absorb_place
 
 pub put-at-requires-clause-taken_bound : goal.put-at-requires-clause-taken_bound
 put-at-requires-clause-taken_bound c = search (rules, absorb_room)
@@ -18,7 +18,7 @@ put-at-requires-clause-taken_bound c = search (rules, absorb_room)
 pub loop-x-preserved : goal.loop-x-preserved
 loop-x-preserved c = (
   search,
-  c.put-at.ensures.kept ∙ c.loop-x.invariant.1,
+  c.put-at.ensures.kept ∙ (search rules),
   absorb_more _ _ _ _ _ _ c.loop-x.invariant.2 (omega arith) (search rules) _ _ _ refl c.put-at.ensures.after c.put-at.ensures.value,
 )
 
@@ -26,12 +26,12 @@ pub bounds-piece-whole : goal.bounds-piece-whole
 bounds-piece-whole c = search (rules, part_inside)
 
 pub bounds-self-at : goal.bounds-self-at
-bounds-self-at c = place_small _ _ _ _ c.loop-x.invariant.2.place
+bounds-self-at c = search absorb_small
 
 pub returns-then-count-ne0 : goal.returns-then-count-ne0
 returns-then-count-ne0 c =
-    absorb_part _ _ _ _ _ _ c.loop-x.invariant.2 (search rules) _ refl c.requires.piece_len (search rules) _ c.loop-x.invariant.1
+    absorb_part _ _ _ _ _ _ c.loop-x.invariant.2 (search rules) _ refl c.requires.piece_len (search rules) _ (search rules)
 
 pub returns-else-count-ne0 : goal.returns-else-count-ne0
 returns-else-count-ne0 c =
-    absorb_whole _ _ _ _ _ _ c.loop-x.invariant.2 (search rules) _ refl c.requires.piece_len (search rules) _ c.loop-x.invariant.1
+    absorb_whole _ _ _ _ _ _ c.loop-x.invariant.2 (search rules) _ refl c.requires.piece_len (search rules) _ (search rules)

@@ -10,18 +10,22 @@ bounds-self-at c = search place_small
 
 pub returns-then-at-block_size-clause-value : goal.returns-then-at-block_size-clause-value
 returns-then-at-block_size-clause-value c =
-    next_place (made c.args.self.now.mode c.args.self.now.bits c.args.self.now.salt c.args.self.now.chaining c.args.taken c.args.self.now.waiting) _ _ c.requires.at_value c.block_size.ensures (search rules)
+    let s = c.args.self.now in
+    next_place (made s.mode s.bits s.salt s.chaining c.args.taken s.waiting) _ _ c.requires.at_value c.block_size.ensures (search rules)
 
 pub returns-then-at-block_size-clause-after : goal.returns-then-at-block_size-clause-after
 returns-then-at-block_size-clause-after c =
-    put_more (made c.args.self.now.mode c.args.self.now.bits c.args.self.now.salt c.args.self.now.chaining c.args.taken c.args.self.now.waiting) _ _ c.requires.at_value c.block_size.ensures (search rules) c.args.x
+    let s = c.args.self.now in
+    put_more (made s.mode s.bits s.salt s.chaining c.args.taken s.waiting) _ _ c.requires.at_value c.block_size.ensures (search rules) c.args.x
 
 pub returns-clause-value : goal.returns-clause-value
 returns-clause-value c =
-    first_place (made c.args.self.now.mode c.args.self.now.bits c.args.self.now.salt c.args.self.now.chaining c.args.taken c.args.self.now.waiting) _ _ c.requires.at_value c.block_size.ensures (search rules) c.args.x _
+    let s = c.args.self.now in
+    first_place (made s.mode s.bits s.salt s.chaining c.args.taken s.waiting) _ _ c.requires.at_value c.block_size.ensures (search rules) c.args.x _
     (ap (λ (u : Session). made u.mode u.bits u.salt u.chaining (c.args.taken + 8) u.waiting) c.compress.ensures)
 
 pub returns-clause-after : goal.returns-clause-after
 returns-clause-after c =
-    put_full (made c.args.self.now.mode c.args.self.now.bits c.args.self.now.salt c.args.self.now.chaining c.args.taken c.args.self.now.waiting) _ _ c.requires.at_value c.block_size.ensures (search rules) c.args.x _
+    let s = c.args.self.now in
+    put_full (made s.mode s.bits s.salt s.chaining c.args.taken s.waiting) _ _ c.requires.at_value c.block_size.ensures (search rules) c.args.x _
     (ap (λ (u : Session). made u.mode u.bits u.salt u.chaining (c.args.taken + 8) u.waiting) c.compress.ensures)

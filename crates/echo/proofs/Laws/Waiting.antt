@@ -92,9 +92,6 @@ module _ (s₀ : Session) (piece : List ℕ) (n : ℕ) where
   absorb_none b size = record { within = omega arith; taken = sym (add-zero s₀.taken); place = ap (λ (x : ℕ). s₀.taken / 8 % x) size; leads = refl }
 
   module _ (i : ℕ) (s : Session) (at : ℕ) (A : Absorbed s₀ piece n i s at) where
-    pub absorb_place : at ≡ s.taken / 8 % block_of s
-    absorb_place = A.place
-
     pub absorb_small : at < 224
     absorb_small = place_small s.mode s.bits s.taken at A.place
 

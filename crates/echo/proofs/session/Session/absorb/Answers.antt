@@ -1,6 +1,6 @@
 -- `absorb` meets its contract: a whole byte a turn and the part byte at the end. Assumes nothing.
 use Rattle.std.proofs.Common.{refl, ◌∙◌, arith, rules}
-use Rattle.echo.proofs.Laws.Waiting.{absorb_more, absorb_none, absorb_part, absorb_place, absorb_room, absorb_small, absorb_whole, part_inside, some_block}
+use Rattle.echo.proofs.Laws.Waiting.{absorb_more, absorb_none, absorb_part, absorb_room, absorb_small, absorb_whole, part_inside, some_block}
 use Rattle.echo.proofs.session.Session.absorb.Goals as goal
 
 pub nonzero_rem-at : goal.nonzero_rem-at
@@ -8,9 +8,6 @@ nonzero_rem-at c = search some_block
 
 pub loop-x-init : goal.loop-x-init
 loop-x-init c = (search, search, search absorb_none)
-
-pub put-at-requires-clause-at_value : goal.put-at-requires-clause-at_value
-put-at-requires-clause-at_value c = search absorb_place
 
 pub put-at-requires-clause-taken_bound : goal.put-at-requires-clause-taken_bound
 put-at-requires-clause-taken_bound c = search (rules, absorb_room)

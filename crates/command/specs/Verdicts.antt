@@ -2,7 +2,7 @@
 use Rattle.std.specs.Prelude.{ℕ, ◌-◌, cond, List, [], ◌∷◌, ℤ, pos, None, Some, drop, leb, take}
 use Rattle.std.specs.Str.{bytes_eq}
 use Rattle.std.specs.declared.option.Option.{Option}
-use Rattle.lines.specs.Reasons.{bytes_of}
+use Rattle.command.specs.Words.{bytes_of}
 
 -- a digit from 3 to 9, alone
 abbrev pub descriptor_of : List ℕ → Option ℤ

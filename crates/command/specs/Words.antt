@@ -1,9 +1,16 @@
 -- What a word of the command line is. Assumes nothing.
 use Rattle.std.specs.Prelude.{ℕ, Bool, false, cond, List, [], ◌∷◌, eqb}
 use Rattle.std.specs.Str.{bytes_eq}
-use Rattle.lines.specs.Reasons.{bytes_of}
+use Prim.Native.Char.{code}
+use Prim.Native.String.{String}
+use Prim.Native.String.{[] as []ˢ, ◌∷◌ as ◌∷ˢ◌}
 use Rattle.command.specs.declared.words.Word.{Word}
 use Rattle.command.specs.declared.words.Word.TheVariants.{End, File, Flag, Help, Version}
+
+-- a text as bytes
+unfoldable pub bytes_of : String → List ℕ
+bytes_of []ˢ = []
+bytes_of (c ∷ˢ s) = code c ∷ bytes_of s
 
 -- whether a dash is in front, with something behind it
 abbrev pub is_dashed : List ℕ → Bool

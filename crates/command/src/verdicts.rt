@@ -3,7 +3,7 @@ ghost use Rattle.std.specs.Prelude.{◌≡◌};
 ghost use Rattle.command.specs.Verdicts.{verdict_of};
 
 // The descriptor that a word names for the verdict: `--verdict-fd=N`, N from 3 to 9.
-#[tactic(auto, unfolding(lines::specs::Reasons::bytes_of))]
+#[tactic(auto, unfolding(crate::specs::Words::bytes_of))]
 pub fn verdict_in(word: &[u8]) -> Option<i32>
     ensures { result ≡ verdict_of word.now }
 {

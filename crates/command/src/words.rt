@@ -16,7 +16,7 @@ pub enum Word {
     Flag,
 }
 
-#[tactic(auto, unfolding(lines::specs::Reasons::bytes_of))]
+#[tactic(auto, unfolding(crate::specs::Words::bytes_of))]
 pub fn kind_of(word: &[u8], is_ended: bool) -> Word
     ensures { result ≡ kind_of word.now is_ended }
 {

@@ -9,7 +9,9 @@ use Rattle.digits.specs.Salts.{salt_of}
 -- ---- the value of a digit, and none of what is none
 
 pub nibble_is : (x : ℕ)
-    → nibble_of x ≡ cond (leb 48 x && leb x 57) (Some (x - 48)) (cond (leb 65 x && leb x 70) (Some (x - 65 + 10)) (cond (leb 97 x && leb x 102) (Some (x - 97 + 10)) None))
+    → nibble_of x
+    ≡ cond (leb 48 x && leb x 57) (Some (x - 48))
+    (cond (leb 65 x && leb x 70) (Some (x - 65 + 10)) (cond (leb 97 x && leb x 102) (Some (x - 97 + 10)) None))
 unfolding nibble_of
 nibble_is x = refl
 
@@ -82,7 +84,8 @@ unfolding bytes_from
 bytes_odd bytes x = refl
 
 pub bytes_are : (n : ℕ) (text : List ℕ)
-    → bytes_of n text ≡ cond (leb (length text) (2 * n)) (option_and_then (λ bytes. Some (bytes ++ drop (length bytes) (replicate n 0))) (bytes_from [] text)) None
+    → bytes_of n text
+    ≡ cond (leb (length text) (2 * n)) (option_and_then (λ bytes. Some (bytes ++ drop (length bytes) (replicate n 0))) (bytes_from [] text)) None
 unfolding bytes_of
 bytes_are n text = refl
 

@@ -10,7 +10,7 @@ use lib.Dec.{ltb}
 use lib.ListN.{drop, get_or, get_or-replicate, length, length-append, length-replicate, replicate, replicate-append-replicate, take}
 use lib.Seq.{drop_at, get_or-take, length-take-le, take_at}
 use Rattle.aes_round.specs.Bytes.{tab, xor, xor_bytes}
-use Rattle.aes_round.proofs.Promises.{code_xor, get_or-xor, length-xor, same_list, tab_ext}
+use Rattle.aes_round.proofs.Promises.{code_xor, get_or-xor, length-xor, same_list, tab_ext, xor_is_tab}
 use Rattle.echo.specs.declared.mode.Mode.TheVariants.{DoublePipe}
 use Rattle.std.proofs.Common.{Result, Ok, IsOk}
 use Rattle.echo.specs.declared.session.Refused.{Refused}
@@ -114,9 +114,9 @@ room_for n l = sym (length-take-le n _ (omega (arith, length-replicate {A = ℕ}
 -- ---- a pad xored to it, and the session that begins with that
 
 pub xored_by : (pad : ℕ) (block : List ℕ) → tab 192 (λ k. bit_xor (get_or block k 0) pad) ≡ xor_bytes 192 block (replicate 192 pad)
-unfolding xor_bytes
 xored_by pad block =
     tab_ext 192 _ _ (λ k l. code_xor _ pad ∙ ap (xor (get_or block k 0)) (sym (get_or-replicate 192 k pad 0 l)))
+    ∙ xor_is_tab 192 block (replicate 192 pad)
 
 module _ (h b pad : ℕ) (block padded : List ℕ) (e : padded ≡ xor_bytes 192 block (replicate 192 pad)) (size : b ≡ block_size h) where
   pub padded_long : b ≤ length padded

@@ -29,7 +29,8 @@ pub plain_each : (name : List ℕ) (r : Bool) → Decides r (All (λ x. letter_o
 unfolding is_plain
 plain_each name r d =
     same_from_decides r (is_plain name) d
-    (Decides-by_and (λ x. eqb (letter_of x) 0) (λ x. letter_of x ≡ 0) is_plain (λ x. Decides-eqb (letter_of x) 0) refl (λ x xs. both (eqb (letter_of x) 0) (is_plain xs)) name)
+    (Decides-by_and (λ x. eqb (letter_of x) 0) (λ x. letter_of x ≡ 0) is_plain (λ x. Decides-eqb (letter_of x) 0) refl
+    (λ x xs. both (eqb (letter_of x) 0) (is_plain xs)) name)
 
 -- ---- what escaping makes of a byte, and of a name
 

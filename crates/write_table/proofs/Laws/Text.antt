@@ -281,18 +281,28 @@ module _ (more : Bool) (text : List ℕ) (i from count : ℕ) (bytes : List ℕ)
 
 -- the same where the bytes are those at the front of the room, and the code took a step
 module _ (more : Bool) (text : List ℕ) (i from count size : ℕ) (room : List ℕ)
-    (so_far : text_of more text ≡ text_from more (take (i - from) (drop from text)) count (take size room) (drop i text))
-    (h : i < length text) (e : get_or text i 0 ≡ 10) (last : Bool) (q : last ≡ cond more false (eqb (i + 1) (length text))) (long : length room ≡ 4096) (within : size ≤ 4096)
+    (I : (from ≤ i)
+        × (count ≤ from)
+        × (size ≤ 4096)
+        × (length room ≡ 4096)
+        × (text_of more text ≡ text_from more (take (i - from) (drop from text)) count (take size room) (drop i text)))
+    (h : i < length text) (e : get_or text i 0 ≡ 10) (last : Bool) (q : last ≡ cond more false (eqb (i + 1) (length text)))
     (s : Result Step BadLine) (p : s ≡ step_of (line_of count (take (i - from) (drop from text))) count size last) (after : List ℕ)
     (a : after ≡ step_leaves (line_of count (take (i - from) (drop from text))) size room) where
+  within : size ≤ 4096
+  within = I.2
+
+  long : length room ≡ 4096
+  long = I.3
+
   abbrev line : Line
   line = line_of count (take (i - from) (drop from text))
 
   abbrev rest : List ℕ → Text
-  rest = then more text i from count (take size room) so_far h e last q
+  rest = then more text i from count (take size room) I.4 h e last q
 
   ends : text_of more text ≡ go_on line count (take size room) last rest
-  ends = line_ends more text i from count (take size room) so_far h e last q
+  ends = line_ends more text i from count (take size room) I.4 h e last q
 
   module _ (longer : ℕ) (y : s ≡ Ok (Over longer)) where
     is_over : (Ok longer ≡ made_of (go_on line count (take size room) last rest))

@@ -1,27 +1,24 @@
 -- `check_tag` meets its contract: an opening, one piece and a check, each of which may refuse. Assumes nothing.
-use Rattle.std.proofs.Common.{Ok, Err, refl}
+use Rattle.std.proofs.Common.{refl}
 use Rattle.echo.proofs.Promises.{handed_on, some}
-use Rattle.hmac.specs.Answers.{checking_of, tag_answer_of}
 use Rattle.hmac.proofs.Laws.AtOnce.{check_checks, check_not_added, check_not_opened}
 use Rattle.hmac.proofs.at_once.check_tag.Goals as goal
 
 pub returns-in_err-opened : goal.returns-in_err-opened
 returns-in_err-opened c =
-    let q = c.in_err-opened.field-0.0 in
-    rw (handed_on c.from_residual.result _ c.from_residual.ensures) (check_not_opened _ _ _ _ (tag_answer_of (Err q)) c.in_err-opened.ensures _ (some q.refusal))
+    rw (handed_on c.from_residual.result _ c.from_residual.ensures)
+    (check_not_opened _ _ _ _ _ c.in_err-opened.ensures _ (some _))
 
 pub returns-in_err-whole : goal.returns-in_err-whole
 returns-in_err-whole c =
-    let q = c.in_err-whole.field-0.0 in
-    rw (handed_on c.from_residual-in_err-whole.result _ c.from_residual-in_err-whole.ensures) (check_not_added _ _ _ _ (tag_answer_of (Ok c.in_ok-opened.opened)) c.in_ok-opened.ensures _ refl (tag_answer_of (Err q)) c.in_err-whole.ensures (some q.refusal))
+    rw (handed_on c.from_residual-in_err-whole.result _ c.from_residual-in_err-whole.ensures)
+    (check_not_added _ _ _ _ _ c.in_ok-opened.ensures _ refl _ c.in_err-whole.ensures (some _))
 
 pub returns-in_err-checked : goal.returns-in_err-checked
 returns-in_err-checked c =
-    let q = c.in_err-checked.field-0.0 in
     rw (handed_on c.from_residual-in_err-checked.result _ c.from_residual-in_err-checked.ensures)
-    (check_checks _ _ _ _ (tag_answer_of (Ok c.in_ok-opened.opened)) c.in_ok-opened.ensures _ refl (tag_answer_of (Ok c.in_ok-whole.whole)) c.in_ok-whole.ensures refl (checking_of (Err q))
-    c.in_err-checked.ensures)
+    (check_checks _ _ _ _ _ c.in_ok-opened.ensures _ refl _ c.in_ok-whole.ensures refl _ c.in_err-checked.ensures)
 
 pub returns : goal.returns
 returns c =
-    check_checks _ _ _ _ (tag_answer_of (Ok c.in_ok-opened.opened)) c.in_ok-opened.ensures _ refl (tag_answer_of (Ok c.in_ok-whole.whole)) c.in_ok-whole.ensures refl (checking_of (Ok c.in_ok-checked.checked)) c.in_ok-checked.ensures
+    check_checks _ _ _ _ _ c.in_ok-opened.ensures _ refl _ c.in_ok-whole.ensures refl _ c.in_ok-checked.ensures

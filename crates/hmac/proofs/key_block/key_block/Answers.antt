@@ -6,7 +6,8 @@ use Rattle.hmac.proofs.key_block.key_block.Goals as goal
 
 pub returns-in_err-digest-clause-refusal_value : goal.returns-in_err-digest-clause-refusal_value
 returns-in_err-digest-clause-refusal_value c =
-    rw (handed_on c.from_residual.result _ c.from_residual.ensures) (digested_number _ _ _ c.requires.bits_value c.requires.salt_len _ c.block_size.ensures _ c.in_err-digest.ensures.refusal)
+    rw (handed_on c.from_residual.result _ c.from_residual.ensures)
+    (digested_number _ _ _ c.requires.bits_value c.requires.salt_len _ c.block_size.ensures _ c.in_err-digest.ensures.refusal)
 
 pub returns-then-block_size-n-clause-refusal_value : goal.returns-then-block_size-n-clause-refusal_value
 returns-then-block_size-n-clause-refusal_value c = search (digested_number, c.in_ok-digest.ensures.refusal)

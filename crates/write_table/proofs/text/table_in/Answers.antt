@@ -10,34 +10,30 @@ loop-i-preserved-then-byte-ne10 c = (search rules, search rules, search rules, s
 
 pub returns-in_err-longer-clause-made : goal.returns-in_err-longer-clause-made
 returns-in_err-longer-clause-made c =
-    let I = c.loop-i.invariant in
     let p = err_from_is_err_and c.from_residual.result c.from_residual.ensures.1 in
     rw (p.1, p.2)
-    (bad_is _ _ _ _ _ _ _ I.4 c.loop-i-test.true c.if-byte-ne10.false _ c.is_end-is_last.ensures I.3 I.2 _ c.take_line.ensures.step _
+    (bad_is _ _ _ _ _ _ _ c.loop-i.invariant c.loop-i-test.true c.if-byte-ne10.false _ c.is_end-is_last.ensures _ c.take_line.ensures.step _
     c.take_line.ensures.left _ c.in_err-longer.was)
 
 pub returns-in-Over-clause-made : goal.returns-in-Over-clause-made
 returns-in-Over-clause-made c =
-    let I = c.loop-i.invariant in
-    made_is _ _ _ _ _ _ _ I.4 c.loop-i-test.true c.if-byte-ne10.false _ c.is_end-is_last.ensures I.3 I.2 _ c.take_line.ensures.step _
+    made_is _ _ _ _ _ _ _ c.loop-i.invariant c.loop-i-test.true c.if-byte-ne10.false _ c.is_end-is_last.ensures _ c.take_line.ensures.step _
     c.take_line.ensures.left _ (c.in_ok-longer.was ∙ ap Ok c.in-Over.is)
 
 pub returns-in-Over-clause-left : goal.returns-in-Over-clause-left
 returns-in-Over-clause-left c =
-    let I = c.loop-i.invariant in
-    left_is _ _ _ _ _ _ _ I.4 c.loop-i-test.true c.if-byte-ne10.false _ c.is_end-is_last.ensures I.3 I.2 _ c.take_line.ensures.step _
+    left_is _ _ _ _ _ _ _ c.loop-i.invariant c.loop-i-test.true c.if-byte-ne10.false _ c.is_end-is_last.ensures _ c.take_line.ensures.step _
     c.take_line.ensures.left _ (c.in_ok-longer.was ∙ ap Ok c.in-Over.is)
 
 pub loop-i-preserved : goal.loop-i-preserved
 loop-i-preserved c =
-    let I = c.loop-i.invariant in
     let more = c.in_ok-longer.was ∙ ap Ok c.in-More.is in (
       search rules,
       search rules,
-      next_size _ _ _ _ _ _ _ I.4 c.loop-i-test.true c.if-byte-ne10.false _ c.is_end-is_last.ensures I.3 I.2 _ c.take_line.ensures.step _
+      next_size _ _ _ _ _ _ _ c.loop-i.invariant c.loop-i-test.true c.if-byte-ne10.false _ c.is_end-is_last.ensures _ c.take_line.ensures.step _
           c.take_line.ensures.left _ more,
       search next_long,
-      next_line _ _ _ _ _ _ _ I.4 c.loop-i-test.true c.if-byte-ne10.false _ c.is_end-is_last.ensures I.3 I.2 _ c.take_line.ensures.step _
+      next_line _ _ _ _ _ _ _ c.loop-i.invariant c.loop-i-test.true c.if-byte-ne10.false _ c.is_end-is_last.ensures _ c.take_line.ensures.step _
           c.take_line.ensures.left _ more,
     )
 

@@ -5,7 +5,7 @@ use Rattle.hmac.proofs.tag_session.TagSession.begun.Goals as goal
 
 pub returns-in_err-fresh-clause-refusal : goal.returns-in_err-fresh-clause-refusal
 returns-in_err-fresh-clause-refusal c =
-    rw (handed_on c.from_residual.result _ c.from_residual.ensures) (opening_refused _ _ _ c.in_err-fresh.field-0.0 c.in_err-fresh.ensures)
+    rw (handed_on c.from_residual.result _ c.from_residual.ensures) (opening_refused _ _ _ _ c.in_err-fresh.ensures)
 
 pub key_block-requires-clause-bits_value : goal.key_block-requires-clause-bits_value
 key_block-requires-clause-bits_value c = bits_pass _ _ c.args.key.now _ c.in_ok-fresh.ensures
@@ -15,7 +15,8 @@ key_block-requires-clause-salt_len c = salt_passes _ _ c.args.key.now _ c.in_ok-
 
 pub returns-in_err-block-clause-refusal : goal.returns-in_err-block-clause-refusal
 returns-in_err-block-clause-refusal c =
-    rw (handed_on c.from_residual-in_err-block.result _ c.from_residual-in_err-block.ensures) (key_number _ _ _ _ c.in_ok-fresh.ensures _ c.in_err-block.ensures.refusal_value)
+    rw (handed_on c.from_residual-in_err-block.result _ c.from_residual-in_err-block.ensures)
+    (key_number _ _ _ _ c.in_ok-fresh.ensures _ c.in_err-block.ensures.refusal_value)
 
 pub keyed-requires-clause-fresh_value : goal.keyed-requires-clause-fresh_value
 keyed-requires-clause-fresh_value c = fresh_is_session _ _ c.args.key.now _ c.in_ok-fresh.ensures

@@ -5,7 +5,7 @@ use Rattle.hmac.proofs.tag_session.TagSession.check.Goals as goal
 
 pub returns-in_err-read : goal.returns-in_err-read
 returns-in_err-read c =
-    rw (handed_on c.from_residual.result _ c.from_residual.ensures) (check_refused _ _ c.in_err-read.field-0.0 c.in_err-read.ensures.answer)
+    rw (handed_on c.from_residual.result _ c.from_residual.ensures) (check_refused _ _ _ c.in_err-read.ensures.answer)
 
 pub slice_bounds-own-end : goal.slice_bounds-own-end
 slice_bounds-own-end c = search (own_tag_within, c.in_ok-read.ensures.answer)

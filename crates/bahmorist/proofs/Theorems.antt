@@ -102,8 +102,8 @@ pub a_digest_in_a_mode_is_that_modes : (mode : Mode) (h : ℕ) (salt message roo
     × (digest_in_leaves (mode_number mode) h salt message room ≡ digest_leaves mode h salt message room)
 a_digest_in_a_mode_is_that_modes mode h salt message room =
     let N = modes.is_number mode in (
-      sym (modes.digest_passed_on (mode_number mode) h salt message room false N.0 refl _ refl),
-      sym (modes.digest_left_on (mode_number mode) h salt message room false N.0 refl mode N.1 _ refl),
+      sym (modes.digest_passed_on (mode_number mode) h salt message room mode N _ refl),
+      sym (modes.digest_left_on (mode_number mode) h salt message room mode N _ refl),
     )
 
 pub a_digest_of_bits_in_a_mode_is_that_modes : (mode : Mode) (h : ℕ) (salt message : List ℕ) (count : ℕ) (room : List ℕ)
@@ -112,8 +112,8 @@ pub a_digest_of_bits_in_a_mode_is_that_modes : (mode : Mode) (h : ℕ) (salt mes
     × (digest_bits_in_leaves (mode_number mode) h salt message count room ≡ digest_bits_leaves mode h salt message count room)
 a_digest_of_bits_in_a_mode_is_that_modes mode h salt message count room =
     let N = modes.is_number mode in (
-      sym (modes.bits_passed_on (mode_number mode) h salt message count room false N.0 refl _ refl),
-      sym (modes.bits_left_on (mode_number mode) h salt message count room false N.0 refl mode N.1 _ refl),
+      sym (modes.bits_passed_on (mode_number mode) h salt message count room mode N _ refl),
+      sym (modes.bits_left_on (mode_number mode) h salt message count room mode N _ refl),
     )
 
 pub a_compression_in_a_mode_is_that_modes : (mode : Mode) (chaining block : List ℕ) (counter : ℕ) (salt : List ℕ)
@@ -122,8 +122,8 @@ pub a_compression_in_a_mode_is_that_modes : (mode : Mode) (chaining block : List
     × (compress_in_leaves (mode_number mode) chaining block counter salt ≡ compress_leaves mode chaining block counter salt)
 a_compression_in_a_mode_is_that_modes mode chaining block counter salt =
     let N = modes.is_number mode in (
-      sym (modes.compress_passed_on (mode_number mode) chaining block counter salt false N.0 refl mode N.1 _ refl),
-      sym (modes.compress_left_on (mode_number mode) chaining block counter salt false N.0 refl mode N.1 _ refl),
+      sym (modes.compress_passed_on (mode_number mode) chaining block counter salt mode N _ refl),
+      sym (modes.compress_left_on (mode_number mode) chaining block counter salt mode N _ refl),
     )
 
 pub a_wide_compression_in_a_mode_is_that_modes : (mode : Mode) (chaining block : List ℕ) (counter : ℕ) (salt : List ℕ)
@@ -132,8 +132,8 @@ pub a_wide_compression_in_a_mode_is_that_modes : (mode : Mode) (chaining block :
     × (compress_wide_in_leaves (mode_number mode) chaining block counter salt ≡ compress_wide_leaves mode chaining block counter salt)
 a_wide_compression_in_a_mode_is_that_modes mode chaining block counter salt =
     let N = modes.is_number mode in (
-      sym (modes.wide_passed_on (mode_number mode) chaining block counter salt false N.0 refl mode N.1 _ refl),
-      sym (modes.wide_left_on (mode_number mode) chaining block counter salt false N.0 refl mode N.1 _ refl),
+      sym (modes.wide_passed_on (mode_number mode) chaining block counter salt mode N _ refl),
+      sym (modes.wide_left_on (mode_number mode) chaining block counter salt mode N _ refl),
     )
 
 pub no_other_number_is_taken : (number h : ℕ) (salt message room chaining block : List ℕ) (counter count : ℕ)
@@ -147,8 +147,8 @@ no_other_number_is_taken number h salt message room chaining block counter count
     let none : true ≡ no_mode number = rw (ne_eqb number 0 z, ne_eqb number 1 o) in (
       modes.digest_refuses number h salt message room true none refl,
       modes.bits_refuses number h salt message count room true none refl,
-      modes.compress_refuses number chaining block counter salt true none refl,
-      modes.wide_refuses number chaining block counter salt true none refl,
+      modes.compress_refuses number chaining block counter salt none,
+      modes.wide_refuses number chaining block counter salt none,
     )
 
 -- ---- where 6 is given: the number is no mode's, or a size is another, and nothing lower applies

@@ -75,25 +75,26 @@ module _ (n h : ℕ) (salt message room : List ℕ) where
           by zero p = rw (behind true (sym e ∙ none), p) refl
           by (suc k) p = rw (behind true (sym e ∙ none), p) refl
 
-    module _ (one : t ≡ false) where
-      same_number : number_in ≡ number
-      same_number = behind false (sym e ∙ one) ∙ by number
-        where
-          by : (k : ℕ) → unless k 0 k ≡ k
-          by zero = refl
-          by (suc k) = refl
+  -- the routine of the mode that the number names
+  module _ (mode : Mode) (named : (false ≡ no_mode n) × (mode ≡ mode_of n)) where
+    same_number : number_in ≡ number
+    same_number = behind false (sym named.0) ∙ by number
+      where
+        by : (k : ℕ) → unless k 0 k ≡ k
+        by zero = refl
+        by (suc k) = refl
 
-      pub digest_passed_on : (r : ℕ) → r ≡ number → r ≡ number_in
-      digest_passed_on r d = d ∙ sym same_number
+    pub digest_passed_on : (r : ℕ) → r ≡ number → r ≡ number_in
+    digest_passed_on r d = d ∙ sym same_number
 
-      pub digest_left_on : (mode : Mode) → mode ≡ mode_of n → (u : List ℕ) → u ≡ digest_leaves mode h salt message room
-          → u ≡ digest_in_leaves n h salt message room
-      unfolding digest_in_leaves
-      digest_left_on mode m u l =
-          l
-          ∙ ap (λ (x : Mode). digest_leaves x h salt message room) m
-          ∙ passed_on number _ room (λ k p. a_refused_digest_leaves_the_room k (mode_of n) h salt message room p)
-          ∙ ap (λ (k : ℕ). unless k (digest_leaves (mode_of n) h salt message room) room) (sym same_number)
+    pub digest_left_on : (u : List ℕ) → u ≡ digest_leaves mode h salt message room
+        → u ≡ digest_in_leaves n h salt message room
+    unfolding digest_in_leaves
+    digest_left_on u l =
+        l
+        ∙ ap (λ (x : Mode). digest_leaves x h salt message room) named.1
+        ∙ passed_on number _ room (λ k p. a_refused_digest_leaves_the_room k (mode_of n) h salt message room p)
+        ∙ ap (λ (k : ℕ). unless k (digest_leaves (mode_of n) h salt message room) room) (sym same_number)
 
 -- ---- the digest of so many bits at once
 
@@ -172,21 +173,21 @@ module _ (n h : ℕ) (salt message : List ℕ) (count : ℕ) (room : List ℕ) w
             by zero f = absurd (f refl)
             by (suc k) f = refl
 
-    module _ (one : t ≡ false) where
-      same_bits_number : digest_bits_refusal h (length salt) message count (length room) ≡ bits_number_in
-      same_bits_number = digest_bits_number h (length salt) message count (length room) ∙ sym (listed_is false one)
+  module _ (mode : Mode) (named : (false ≡ no_mode n) × (mode ≡ mode_of n)) where
+    same_bits_number : digest_bits_refusal h (length salt) message count (length room) ≡ bits_number_in
+    same_bits_number = digest_bits_number h (length salt) message count (length room) ∙ sym (listed_is false named.0 false refl)
 
-      pub bits_passed_on : (r : ℕ) → r ≡ digest_bits_refusal h (length salt) message count (length room) → r ≡ bits_number_in
-      bits_passed_on r d = d ∙ same_bits_number
+    pub bits_passed_on : (r : ℕ) → r ≡ digest_bits_refusal h (length salt) message count (length room) → r ≡ bits_number_in
+    bits_passed_on r d = d ∙ same_bits_number
 
-      pub bits_left_on : (mode : Mode) → mode ≡ mode_of n → (u : List ℕ) → u ≡ digest_bits_leaves mode h salt message count room
-          → u ≡ digest_bits_in_leaves n h salt message count room
-      unfolding digest_bits_in_leaves
-      bits_left_on mode m u l =
-          l
-          ∙ ap (λ (x : Mode). digest_bits_leaves x h salt message count room) m
-          ∙ passed_on _ _ room (λ k p. a_refused_digest_of_bits_leaves_the_room k (mode_of n) h salt message count room p)
-          ∙ ap (λ (k : ℕ). unless k (digest_bits_leaves (mode_of n) h salt message count room) room) same_bits_number
+    pub bits_left_on : (u : List ℕ) → u ≡ digest_bits_leaves mode h salt message count room
+        → u ≡ digest_bits_in_leaves n h salt message count room
+    unfolding digest_bits_in_leaves
+    bits_left_on u l =
+        l
+        ∙ ap (λ (x : Mode). digest_bits_leaves x h salt message count room) named.1
+        ∙ passed_on _ _ room (λ k p. a_refused_digest_of_bits_leaves_the_room k (mode_of n) h salt message count room p)
+        ∙ ap (λ (k : ℕ). unless k (digest_bits_leaves (mode_of n) h salt message count room) room) same_bits_number
 
 -- ---- compression, with what is refused behind 2 and 6
 
@@ -233,27 +234,27 @@ module _ (n : ℕ) (chaining block salt : List ℕ) (rest : List Refusal) where
           ∙ ap (λ (k : ℕ). unless k (leaves (mode_of n)) chaining) (is ∙ sym (same false one))
 
 -- a counter of 64 bits
-module _ (n : ℕ) (chaining block : List ℕ) (counter : ℕ) (salt : List ℕ) (t : Bool) (e : t ≡ no_mode n) where
+module _ (n : ℕ) (chaining block : List ℕ) (counter : ℕ) (salt : List ℕ) where
   abbrev high : List Refusal
   high = (7 when counter_too_high counter) ∷ []
 
   abbrev refusal_in : ℕ
   refusal_in = compress_in_refusal n (length chaining) (length block) counter (length salt)
 
-  pub compress_refuses : t ≡ true → refusal_in ≡ 0 → ⊥
+  pub compress_refuses : true ≡ no_mode n → refusal_in ≡ 0 → ⊥
   unfolding compress_in_refusal
-  compress_refuses = refuses n chaining block salt high t e
+  compress_refuses none = refuses n chaining block salt high true none refl
 
-  module _ (none : t ≡ true) where
-    pub compress_no_mode : (r : ℕ) → r ≡ cond (no_salt (length salt)) 2 6 → r ≡ refusal_in
+  module _ (r : ℕ) (none : (true ≡ no_mode n) × (r ≡ cond (no_salt (length salt)) 2 6)) where
+    pub compress_no_mode : r ≡ refusal_in
     unfolding compress_in_refusal
-    compress_no_mode r d = d ∙ number_none n chaining block salt high t e none
+    compress_no_mode = none.1 ∙ number_none n chaining block salt high true none.0 refl
 
     pub no_mode_keeps : chaining ≡ compress_in_leaves n chaining block counter salt
     unfolding compress_in_leaves compress_in_refusal
-    no_mode_keeps = keeps n chaining block salt high t e none _
+    no_mode_keeps = keeps n chaining block salt high true none.0 refl _
 
-  module _ (one : t ≡ false) (mode : Mode) (m : mode ≡ mode_of n) where
+  module _ (mode : Mode) (named : (false ≡ no_mode n) × (mode ≡ mode_of n)) where
     abbrev refusal : Mode → ℕ
     refusal x = compress_refusal x (length chaining) (length block) counter (length salt)
 
@@ -262,34 +263,34 @@ module _ (n : ℕ) (chaining block : List ℕ) (counter : ℕ) (salt : List ℕ)
 
     pub compress_passed_on : (r : ℕ) → r ≡ refusal mode → r ≡ refusal_in
     unfolding compress_in_refusal
-    compress_passed_on r d = d ∙ numbers_on n chaining block salt high t e one refusal is mode m
+    compress_passed_on r d = d ∙ numbers_on n chaining block salt high false named.0 refl refusal is mode named.1
 
     pub compress_left_on : (u : List ℕ) → u ≡ compress_leaves mode chaining block counter salt → u ≡ compress_in_leaves n chaining block counter salt
     unfolding compress_in_leaves compress_in_refusal
     compress_left_on u l =
         l
-        ∙ leaves_on n chaining block salt high t e one refusal is mode m (λ x. compress_leaves x chaining block counter salt)
+        ∙ leaves_on n chaining block salt high false named.0 refl refusal is mode named.1 (λ x. compress_leaves x chaining block counter salt)
         (λ k. a_refused_compression_leaves_the_chaining_value k (mode_of n) chaining block counter salt)
 
 -- a counter of 128 bits
-module _ (n : ℕ) (chaining block : List ℕ) (counter : ℕ) (salt : List ℕ) (t : Bool) (e : t ≡ no_mode n) where
+module _ (n : ℕ) (chaining block : List ℕ) (counter : ℕ) (salt : List ℕ) where
   abbrev wide_refusal_in : ℕ
   wide_refusal_in = compress_wide_in_refusal n (length chaining) (length block) (length salt)
 
-  pub wide_refuses : t ≡ true → wide_refusal_in ≡ 0 → ⊥
+  pub wide_refuses : true ≡ no_mode n → wide_refusal_in ≡ 0 → ⊥
   unfolding compress_wide_in_refusal
-  wide_refuses = refuses n chaining block salt [] t e
+  wide_refuses none = refuses n chaining block salt [] true none refl
 
-  module _ (none : t ≡ true) where
-    pub wide_no_mode : (r : ℕ) → r ≡ cond (no_salt (length salt)) 2 6 → r ≡ wide_refusal_in
+  module _ (r : ℕ) (none : (true ≡ no_mode n) × (r ≡ cond (no_salt (length salt)) 2 6)) where
+    pub wide_no_mode : r ≡ wide_refusal_in
     unfolding compress_wide_in_refusal
-    wide_no_mode r d = d ∙ number_none n chaining block salt [] t e none
+    wide_no_mode = none.1 ∙ number_none n chaining block salt [] true none.0 refl
 
     pub wide_no_mode_keeps : chaining ≡ compress_wide_in_leaves n chaining block counter salt
     unfolding compress_wide_in_leaves compress_wide_in_refusal
-    wide_no_mode_keeps = keeps n chaining block salt [] t e none _
+    wide_no_mode_keeps = keeps n chaining block salt [] true none.0 refl _
 
-  module _ (one : t ≡ false) (mode : Mode) (m : mode ≡ mode_of n) where
+  module _ (mode : Mode) (named : (false ≡ no_mode n) × (mode ≡ mode_of n)) where
     abbrev wide_refusal : Mode → ℕ
     wide_refusal x = compress_wide_refusal x (length chaining) (length block) (length salt)
 
@@ -298,11 +299,11 @@ module _ (n : ℕ) (chaining block : List ℕ) (counter : ℕ) (salt : List ℕ)
 
     pub wide_passed_on : (r : ℕ) → r ≡ wide_refusal mode → r ≡ wide_refusal_in
     unfolding compress_wide_in_refusal
-    wide_passed_on r d = d ∙ numbers_on n chaining block salt [] t e one wide_refusal wide_is mode m
+    wide_passed_on r d = d ∙ numbers_on n chaining block salt [] false named.0 refl wide_refusal wide_is mode named.1
 
     pub wide_left_on : (u : List ℕ) → u ≡ compress_wide_leaves mode chaining block counter salt → u ≡ compress_wide_in_leaves n chaining block counter salt
     unfolding compress_wide_in_leaves compress_wide_in_refusal
     wide_left_on u l =
         l
-        ∙ leaves_on n chaining block salt [] t e one wide_refusal wide_is mode m (λ x. compress_wide_leaves x chaining block counter salt)
+        ∙ leaves_on n chaining block salt [] false named.0 refl wide_refusal wide_is mode named.1 (λ x. compress_wide_leaves x chaining block counter salt)
         (λ k. a_refused_wide_compression_leaves_the_chaining_value k (mode_of n) chaining block counter salt)

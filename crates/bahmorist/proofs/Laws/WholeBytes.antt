@@ -23,12 +23,12 @@ module _ (n h : ℕ) (salt message room : List ℕ) where
   in_a_mode : no_mode n ≡ false → Agree
   in_a_mode one =
       let W = whole_bytes_are_eight_bits_each (mode_of n) h salt message room blank in (
-        sym (modes.bits_passed_on n h salt message count room false (sym one) refl _ refl)
+        sym (modes.bits_passed_on n h salt message count room (mode_of n) (sym one, refl) _ refl)
             ∙ sym W.0
-            ∙ modes.digest_passed_on n h salt message room false (sym one) refl _ refl,
-        sym (modes.bits_left_on n h salt message count room false (sym one) refl (mode_of n) refl _ refl)
+            ∙ modes.digest_passed_on n h salt message room (mode_of n) (sym one, refl) _ refl,
+        sym (modes.bits_left_on n h salt message count room (mode_of n) (sym one, refl) _ refl)
             ∙ sym W.1
-            ∙ modes.digest_left_on n h salt message room false (sym one) refl (mode_of n) refl _ refl,
+            ∙ modes.digest_left_on n h salt message room (mode_of n) (sym one, refl) _ refl,
       )
 
   -- no mode's: both refuse by what the digest refuses by, or by 6, and leave the room

@@ -109,9 +109,11 @@ module _ (line : List ℕ) (at : ℕ) (h : at + 4 ≤ length line) where
       (λ y. absurd (omega (arith, n (ap is_hex kind_is ∙ y), ap length kind_is, two)))
       (λ f. rw (hex_front kind body two, f))
 
-  module _ (y : is_hex kind_part ≡ true) where
+  -- what the code reads of the kind
+  module _ (first : List ℕ)
+      (one : (is_hex kind_part ≡ true) × (length kind_part ≤ 2 * 1) × (take (length kind_part / 2) first ≡ pairs_of kind_part)) where
     kind_hex : is_hex kind ≡ true
-    kind_hex = ap is_hex (sym kind_is) ∙ y
+    kind_hex = ap is_hex (sym kind_is) ∙ one.0
 
     pub no_body : (is_hex body_part ≡ true → 2 * 32 < length body_part) → Unreadable ≡ record_behind line at
     unfolding record_behind
@@ -121,10 +123,10 @@ module _ (line : List ℕ) (at : ℕ) (h : at + 4 ≤ length line) where
         (λ f. rw (hex_front kind body two, kind_hex, f))
 
     -- the bytes of both, one behind the other
-    module _ (first : List ℕ) (one : take (length kind_part / 2) first ≡ pairs_of kind_part) (z : is_hex body_part ≡ true)
-        (rest : List ℕ) (all : take (length body_part / 2) rest ≡ pairs_of body_part) where
+    module _ (rest : List ℕ)
+        (all : (is_hex body_part ≡ true) × (length body_part ≤ 2 * 32) × (take (length body_part / 2) rest ≡ pairs_of body_part)) where
       first_is : get_or first 0 0 ∷ [] ≡ pairs_of kind
-      first_is = go first (ap (λ (k : ℕ). take k first) size ∙ one ∙ ap pairs_of kind_is)
+      first_is = go first (ap (λ (k : ℕ). take k first) size ∙ one.2 ∙ ap pairs_of kind_is)
         where
           size : 1 ≡ length kind_part / 2
           size = omega (arith, ap length kind_is, two)
@@ -138,9 +140,9 @@ module _ (line : List ℕ) (at : ℕ) (h : at + 4 ≤ length line) where
       unfolding record_behind
       whole_record r put p s =
           let size : 1 + (length line - (at + 4)) / 2 ≡ suc (length body_part / 2) = omega (arith, ap length body_is, length-drop (at + 4) line) in
-          let back : take (length body_part / 2) rest ≡ pairs_of body = all ∙ ap pairs_of body_is in
+          let back : take (length body_part / 2) rest ≡ pairs_of body = all.2 ∙ ap pairs_of body_is in
           let front : get_or first 0 0 ∷ pairs_of body ≡ pairs_of kind ++ pairs_of body = ap (λ (l : List ℕ). l ++ pairs_of body) first_is in
-          let hex : is_hex body ≡ true = ap is_hex (sym body_is) ∙ z in
+          let hex : is_hex body ≡ true = ap is_hex (sym body_is) ∙ all.0 in
           s
           ∙ rw (size, p, append-nil rest, back)
           (ap alone front ∙ rw (hex_front kind body two, kind_hex, hex, pairs_front kind body two))

@@ -1,18 +1,17 @@
 -- `compress_wide_in` meets its contract: a number that is no mode's is refused behind the salt, and any other names the mode. Assumes nothing.
 use Rattle.echo.proofs.Promises.{handed_on}
-use Rattle.std.specs.Prelude.{false, refl, true}
 use Rattle.bahmorist.proofs.Laws.Modes.{wide_left_on, wide_no_mode, wide_passed_on, wide_no_mode_keeps}
 use Rattle.bahmorist.proofs.in_modes.compress_wide_in.Goals as goal
 
 pub returns-in_err-named-clause-refusal : goal.returns-in_err-named-clause-refusal
 returns-in_err-named-clause-refusal c =
-    rw (handed_on c.from_residual.result _ c.from_residual.ensures) (wide_no_mode _ _ _ 0 _ true c.in_err-named.ensures.0 refl _ c.in_err-named.ensures.1)
+    rw (handed_on c.from_residual.result _ c.from_residual.ensures) (wide_no_mode _ _ _ 0 _ _ c.in_err-named.ensures)
 
 pub returns-in_err-named-clause-left : goal.returns-in_err-named-clause-left
-returns-in_err-named-clause-left c = wide_no_mode_keeps _ _ _ _ _ true c.in_err-named.ensures.0 refl
+returns-in_err-named-clause-left c = wide_no_mode_keeps _ _ _ _ _ _ c.in_err-named.ensures
 
 pub returns-clause-refusal : goal.returns-clause-refusal
-returns-clause-refusal c = wide_passed_on _ _ _ 0 _ false c.in_ok-named.ensures.0 refl _ c.in_ok-named.ensures.1 _ c.compress_wide.ensures.refusal
+returns-clause-refusal c = wide_passed_on _ _ _ 0 _ _ c.in_ok-named.ensures _ c.compress_wide.ensures.refusal
 
 pub returns-clause-left : goal.returns-clause-left
-returns-clause-left c = wide_left_on _ _ _ _ _ false c.in_ok-named.ensures.0 refl _ c.in_ok-named.ensures.1 _ c.compress_wide.ensures.left
+returns-clause-left c = wide_left_on _ _ _ _ _ _ c.in_ok-named.ensures _ c.compress_wide.ensures.left

@@ -6,10 +6,8 @@ pub returns-in_default : goal.returns-in_default
 returns-in_default c = no_kind _ _ c.requires c.in_default.ensures
 
 pub returns-in_default-pairs_in : goal.returns-in_default-pairs_in
-returns-in_default-pairs_in c = no_body _ _ c.requires c.in-Some.ensures.0 c.in_default-pairs_in.ensures
+returns-in_default-pairs_in c = no_body _ _ c.requires _ c.in-Some.ensures c.in_default-pairs_in.ensures
 
 pub returns : goal.returns
 returns c =
-    let kind = c.in-Some.ensures in
-    let body = c.in-Some-pairs_in.ensures in
-    whole_record _ _ c.requires kind.0 _ kind.2 body.0 _ body.2 _ _ c.copy_from_slice.ensures.after c.record_of.ensures
+    whole_record _ _ c.requires _ c.in-Some.ensures _ c.in-Some-pairs_in.ensures _ _ c.copy_from_slice.ensures.after c.record_of.ensures

@@ -1,5 +1,5 @@
 -- Digest sessions in a case, and in a line. Assumes nothing.
-use Rattle.std.specs.Prelude.{ℕ, ◌+◌, ◌*◌, ◌-◌, ◌/◌, ◌^◌, Bool, false, true, cond, List, [], ◌∷◌, ◌++◌, drop, ltb, min, slice_index, take}
+use Rattle.std.specs.Prelude.{ℕ, ◌*◌, ◌-◌, ◌/◌, ◌^◌, Bool, false, true, cond, List, ◌∷◌, ◌++◌, drop, ltb, min, slice_index, take}
 use Rattle.std.specs.Int.{from_le_bytes, w64}
 use Rattle.cases_in.specs.Modes.{mode_of, number_of}
 use Rattle.echo.specs.declared.session.Session.{Session}

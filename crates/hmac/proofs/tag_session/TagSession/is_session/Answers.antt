@@ -32,4 +32,5 @@ returns-then-not-same c =
 pub returns : goal.returns
 returns c =
     counts_decide _ _ c.is_session.ensures (ap not c.if-not-is_session.false) _ c.is_session-2.ensures (ap not c.if-not-is_session-2.false) _ refl
-    (another_mode _ _ c.if-ne.ensures) _ refl (another_mode _ _ c.if-ne-2.ensures) c.if-self.false _ c.same.ensures (ap not c.if-not-same.false) _ c.counts_fit.ensures
+    (another_mode _ _ c.if-ne.ensures) _ refl (another_mode _ _ c.if-ne-2.ensures)
+    c.if-self.false _ c.same.ensures (ap not c.if-not-same.false) _ c.counts_fit.ensures

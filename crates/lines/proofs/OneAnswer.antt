@@ -10,30 +10,30 @@ use Rattle.lines.proofs.line.Line.hex.Reads as hex
 use Rattle.lines.proofs.line.Line.named.Reads as named
 use Rattle.lines.proofs.line.Line.reason.Reads as reason
 
-module _ (N : _) (fits : _) (κs : _) (a : _) (r r' : _) (s s' : _) where
-  pub new_has_one_answer : new.Post N fits κs a r s → new.Post N fits κs a r' s' → r ≡ r'
-  new_has_one_answer p q = p ∙ sym q
+pub new_has_one_answer : (N : _) (fits : _) (κs : _) (a : _) (r r' : _) (s s' : _) → new.Post N fits κs a r s → new.Post N fits κs a r' s'
+    → r ≡ r'
+new_has_one_answer N fits κs a r r' s s' p q = p ∙ sym q
 
-module _ (N : _) (fits : _) (κs : _) (a : _) (r r' : _) (s s' : _) where
-  pub bytes_has_one_answer : bytes.Post N fits κs a r s → bytes.Post N fits κs a r' s' → r.now ≡ r'.now
-  bytes_has_one_answer p q = p.0 ∙ sym q.0
+pub bytes_has_one_answer : (N : _) (fits : _) (κs : _) (a : _) (r r' : _) (s s' : _) → bytes.Post N fits κs a r s → bytes.Post N fits κs a r' s'
+    → r.now ≡ r'.now
+bytes_has_one_answer N fits κs a r r' s s' p q = p.0 ∙ sym q.0
 
-module _ (N : _) (fits : _) (κs : _) (a : _) (r r' : _) (s s' : _) where
-  pub text_has_one_answer : text.Post N fits κs a r s → text.Post N fits κs a r' s' → (r.now ≡ r'.now) × (r.ghost_name ≡ r'.ghost_name)
-  text_has_one_answer p q = (p.1 ∙ sym q.1, p.0 ∙ sym q.0)
+pub text_has_one_answer : (N : _) (fits : _) (κs : _) (a : _) (r r' : _) (s s' : _) → text.Post N fits κs a r s → text.Post N fits κs a r' s'
+    → (r.now ≡ r'.now) × (r.ghost_name ≡ r'.ghost_name)
+text_has_one_answer N fits κs a r r' s s' p q = (p.1 ∙ sym q.1, p.0 ∙ sym q.0)
 
-module _ (N : _) (fits : _) (κs : _) (a : _) (r r' : _) (s s' : _) where
-  pub decimal_has_one_answer : decimal.Post N fits κs a r s → decimal.Post N fits κs a r' s' → (r.now ≡ r'.now) × (r.ghost_name ≡ r'.ghost_name)
-  decimal_has_one_answer p q = (p.1 ∙ sym q.1, p.0 ∙ sym q.0)
+pub decimal_has_one_answer : (N : _) (fits : _) (κs : _) (a : _) (r r' : _) (s s' : _) → decimal.Post N fits κs a r s → decimal.Post N fits κs a r' s'
+    → (r.now ≡ r'.now) × (r.ghost_name ≡ r'.ghost_name)
+decimal_has_one_answer N fits κs a r r' s s' p q = (p.1 ∙ sym q.1, p.0 ∙ sym q.0)
 
-module _ (N : _) (fits : _) (κs : _) (a : _) (r r' : _) (s s' : _) where
-  pub hex_has_one_answer : hex.Post N fits κs a r s → hex.Post N fits κs a r' s' → (r.now ≡ r'.now) × (r.ghost_name ≡ r'.ghost_name)
-  hex_has_one_answer p q = (p.1 ∙ sym q.1, p.0 ∙ sym q.0)
+pub hex_has_one_answer : (N : _) (fits : _) (κs : _) (a : _) (r r' : _) (s s' : _) → hex.Post N fits κs a r s → hex.Post N fits κs a r' s'
+    → (r.now ≡ r'.now) × (r.ghost_name ≡ r'.ghost_name)
+hex_has_one_answer N fits κs a r r' s s' p q = (p.1 ∙ sym q.1, p.0 ∙ sym q.0)
 
-module _ (N : _) (fits : _) (κs : _) (a : _) (r r' : _) (s s' : _) where
-  pub named_has_one_answer : named.Post N fits κs a r s → named.Post N fits κs a r' s' → (r.now ≡ r'.now) × (r.ghost_name ≡ r'.ghost_name)
-  named_has_one_answer p q = (p.1 ∙ sym q.1, p.0 ∙ sym q.0)
+pub named_has_one_answer : (N : _) (fits : _) (κs : _) (a : _) (r r' : _) (s s' : _) → named.Post N fits κs a r s → named.Post N fits κs a r' s'
+    → (r.now ≡ r'.now) × (r.ghost_name ≡ r'.ghost_name)
+named_has_one_answer N fits κs a r r' s s' p q = (p.1 ∙ sym q.1, p.0 ∙ sym q.0)
 
-module _ (N : _) (fits : _) (κs : _) (a : _) (r r' : _) (s s' : _) where
-  pub reason_has_one_answer : reason.Post N fits κs a r s → reason.Post N fits κs a r' s' → (r.now ≡ r'.now) × (r.ghost_name ≡ r'.ghost_name)
-  reason_has_one_answer p q = (p.1 ∙ sym q.1, p.0 ∙ sym q.0)
+pub reason_has_one_answer : (N : _) (fits : _) (κs : _) (a : _) (r r' : _) (s s' : _) → reason.Post N fits κs a r s → reason.Post N fits κs a r' s'
+    → (r.now ≡ r'.now) × (r.ghost_name ≡ r'.ghost_name)
+reason_has_one_answer N fits κs a r r' s s' p q = (p.1 ∙ sym q.1, p.0 ∙ sym q.0)

@@ -1,7 +1,5 @@
 -- The descriptor for the verdict. Assumes nothing.
-use Rattle.std.specs.Prelude.{ℕ, ◌-◌, cond, List, [], ◌∷◌, ℤ, pos, None, Some, drop, leb, take}
-use Rattle.std.specs.Str.{bytes_eq}
-use Rattle.std.specs.declared.option.Option.{Option}
+use Rattle.std.specs.Prelude.{ℕ, ◌-◌, cond, List, [], ◌∷◌, ℤ, pos, None, Some, drop, leb, take, bytes_eq, Option}
 use Rattle.command.specs.Words.{bytes_of}
 
 -- a digit from 3 to 9, alone

@@ -9,8 +9,9 @@ use Rattle.digits.proofs.salts.salt_in.Reads as salting
 pub nibble_has_one_answer : (κs : _) (a : _) (r r' : _) (s s' : _) → nibble.Post κs a r s → nibble.Post κs a r' s' → r ≡ r'
 nibble_has_one_answer κs a r r' s s' p q = p.0 ∙ sym q.0
 
-pub bytes_in_has_one_answer : (n : _) (f : _) (κs : _) (a : _) (r r' : _) (s s' : _) → bytes.Post n f κs a r s → bytes.Post n f κs a r' s' → r ≡ r'
-bytes_in_has_one_answer n f κs a r r' s s' p q = p ∙ sym q
+pub bytes_in_has_one_answer : (N : _) (fits : _) (κs : _) (a : _) (r r' : _) (s s' : _) → bytes.Post N fits κs a r s → bytes.Post N fits κs a r' s'
+    → r ≡ r'
+bytes_in_has_one_answer N fits κs a r r' s s' p q = p ∙ sym q
 
 pub number_in_has_one_answer : (κs : _) (a : _) (r r' : _) (s s' : _) → numbering.Post κs a r s → numbering.Post κs a r' s' → r ≡ r'
 number_in_has_one_answer κs a r r' s s' p q = p ∙ sym q

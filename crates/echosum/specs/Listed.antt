@@ -1,6 +1,6 @@
 -- What a line of a list says. Assumes nothing.
-use Rattle.std.specs.Prelude.{ℕ, ◌+◌, ◌*◌, ◌-◌, ◌/◌, ◌%◌, Bool, true, false, cond, List, [], ◌∷◌, eqb, ltb, get_or, length, bytes_eq, Option, None, Some}
-use Rattle.std.specs.Option.{option_and_then, option_or}
+use Rattle.std.specs.Prelude.{ℕ, ◌+◌, ◌*◌, ◌-◌, ◌/◌, ◌%◌, Bool, true, false, cond, List, [], ◌∷◌, eqb, ltb, get_or, length, bytes_eq, Option, None, Some, option_and_then}
+use Rattle.std.specs.Option.{option_or}
 use Rattle.digits.specs.Hexadecimal.{bytes_of}
 use Rattle.digits.specs.Numbers.{number_of}
 use Rattle.digits.specs.Salts.{salt_of}

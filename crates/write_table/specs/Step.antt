@@ -1,6 +1,5 @@
 -- One line of a text: a step of the code, which only contracts of private functions cite. Assumes nothing.
-use Rattle.std.specs.Prelude.{ℕ, suc, ◌+◌, Bool, cond, List, ◌∷◌, Err, Ok, leb, length}
-use Rattle.std.specs.declared.result.Result.{Result}
+use Rattle.std.specs.Prelude.{ℕ, suc, ◌+◌, Bool, cond, List, ◌∷◌, Err, Ok, leb, length, Result}
 use Rattle.steering.specs.Records.{body_of, kind_of}
 use Rattle.steering.specs.Writing.{put_at}
 use Rattle.write_table.specs.declared.line.Line.{Line}

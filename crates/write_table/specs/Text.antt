@@ -1,6 +1,5 @@
 -- What a whole text comes to: a table, or the number of the first bad line, from 1. Assumes nothing.
-use Rattle.std.specs.Prelude.{ℕ, suc, ◌+◌, Bool, true, false, cond, not, ◌&&◌, List, [], ◌∷◌, ◌++◌, Err, Ok, eqb, leb, length}
-use Rattle.std.specs.declared.result.Result.{Result}
+use Rattle.std.specs.Prelude.{ℕ, suc, ◌+◌, Bool, true, false, cond, not, ◌&&◌, List, [], ◌∷◌, ◌++◌, Err, Ok, eqb, leb, length, Result}
 use Rattle.steering.specs.Records.{body_of, kind_of}
 use Rattle.write_table.specs.declared.line.Line.{Line}
 use Rattle.write_table.specs.declared.line.Line.TheVariants.{Count, Record, Unreadable}

@@ -9,7 +9,7 @@ use super::initial::initial;
 use super::lent::{copy_in, sixteen};
 use super::mode::Mode;
 use super::refusal::Refusal;
-use super::refusals::{BIT_LIMIT, LIMIT};
+use super::refusals::BIT_LIMIT;
 use super::waiting::zeros_from;
 
 // A digest that is under way. It is passed by value, and each call hands it back.
@@ -146,14 +146,8 @@ impl Session {
     pub fn add(self, piece: &[u8]) -> Result<Session, Refused>
         ensures { answer_of result ≡ add_answer self piece.now }
     {
-        let n = piece.len() as u64;
-        if n <= LIMIT {
-            return self.add_bits(piece, 8 * n);
-        }
-        if !self.is_session() {
-            return Err(self.refused(Refusal::NoSession));
-        }
-        Err(self.refused(Refusal::TooLong))
+        // where eight bits for each byte can't be counted, the highest number is past the limit as well
+        self.add_bits(piece, (piece.len() as u64).saturating_mul(8))
     }
 
     // Puts the digest of the message so far at the front of `out`, whose bytes behind it stay, and hands the session back as it came. Refused as

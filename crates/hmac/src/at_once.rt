@@ -49,10 +49,9 @@ pub fn make_tag(
     ensures refusal { refusal_of result ≡ make_refusal bits (length salt.now) (length key.now) (length message.now) (length out.old) }
     ensures left { out.new ≡ make_leaves bits salt.now key.now message.now out.old }
 {
-    let opened = TagSession::open(bits, salt, key)?;
+    let opened = TagSession::begun(bits, salt, key)?;
     let whole = opened.add(message)?;
-    whole.read(out)?;
-    Ok(())
+    whole.put_tag(out)
 }
 
 // Whether the tag is that of the message, all of it and nothing else. Refused as `NotAdmitted`, `NoSalt` or `TooLong`.
@@ -65,7 +64,7 @@ pub fn check_tag(
 ) -> Result<bool, Refusal>
     ensures { verdict_of result ≡ check_answer bits salt.now key.now message.now tag.now }
 {
-    let opened = TagSession::open(bits, salt, key)?;
+    let opened = TagSession::begun(bits, salt, key)?;
     let whole = opened.add(message)?;
     let checked = whole.check(tag)?;
     Ok(checked.yes)

@@ -35,10 +35,13 @@ pub(crate) fn key_block(bits: u64, salt: &[u8], key: &[u8]) -> Result<[u8; 192],
 }
 
 // The block xored with a pad of one byte repeated.
-fn xored(block: [u8; 192], pad: u8) -> [u8; 192]
+fn xored(mut block: [u8; 192], pad: u8) -> [u8; 192]
     ensures { result ≡ xor_bytes 192 block (replicate 192 pad) }
 {
-    block.map(|byte| byte ^ pad)
+    for byte in &mut block {
+        *byte ^= pad;
+    }
+    block
 }
 
 // A digest session to which K0, at the front of `block`, was added, xored with a pad of one byte repeated.

@@ -3,7 +3,7 @@ ghost use Rattle.std.specs.Prelude.{true, ◌≡◌, IfOk, length};
 ghost use Rattle.echo.specs.Answers.{refusal_of};
 ghost use Rattle.hmac.specs.Answers.{checking_of, tag_answer_of};
 ghost use Rattle.hmac.specs.TagSession.{add_tag_answer, blank_tag, check_tag_answer, closed_by, counts_fit, is_tag_session, open_tag_answer, open_tag_refusal};
-ghost use Rattle.hmac.specs.TagSession.{opened_tag, read_tag_answer, read_tag_leaves};
+ghost use Rattle.hmac.specs.TagSession.{opened_tag, read_tag_answer, read_tag_leaves, read_tag_refusal};
 
 use super::comparison::same;
 use super::key_block::{block_size, key_block, keyed};
@@ -70,8 +70,9 @@ impl TagSession {
         }
     }
 
-    // Two sessions that begin with the key, or why there are none.
-    fn begun(bits: u64, salt: &[u8], key: &[u8]) -> Result<TagSession, Refusal>
+    // Two sessions that begin with the key, or why there are none. A refusal that carries sessions takes a kilobyte of stack, so that the routines of
+    // whole messages call this, and not `open`.
+    pub(crate) fn begun(bits: u64, salt: &[u8], key: &[u8]) -> Result<TagSession, Refusal>
         ensures refusal { refusal_of result ≡ open_tag_refusal bits (length salt.now) (length key.now) }
         ensures session { IfOk result (λ session. session ≡ opened_tag bits salt.now key.now) }
     {
@@ -143,19 +144,28 @@ impl TagSession {
         self.outer.add(&digest[..n]).unwrap()
     }
 
+    // Puts the tag of the message so far at the front of `out`. What hands the session back, as `read` does, takes a kilobyte of stack more.
+    pub(crate) fn put_tag(self, out: &mut [u8]) -> Result<(), Refusal>
+        ensures refusal { refusal_of result ≡ read_tag_refusal self (length out.old) }
+        ensures left { out.new ≡ read_tag_leaves self out.old }
+    {
+        if !self.is_session() {
+            return Err(Refusal::NoSession);
+        }
+        let closed = self.closed();
+        closed.read(out)?;
+        Ok(())
+    }
+
     // Puts the tag of the message so far at the front of `out`, whose bytes behind it stay, and hands the session back as it came. Refused as
     // `NoSession` or `NoRoom`, it writes nothing.
     pub fn read(self, out: &mut [u8]) -> Result<TagSession, RefusedTag>
         ensures answer { tag_answer_of result ≡ read_tag_answer self (length out.old) }
         ensures left { out.new ≡ read_tag_leaves self out.old }
     {
-        if !self.is_session() {
-            return Err(self.refused(Refusal::NoSession));
-        }
-        let closed = self.closed();
-        match closed.read(out) {
-            Ok(_) => Ok(self),
-            Err(refused) => Err(self.refused(refused.refusal)),
+        match self.put_tag(out) {
+            Ok(()) => Ok(self),
+            Err(refusal) => Err(self.refused(refusal)),
         }
     }
 

@@ -1,5 +1,6 @@
 -- Laws of the session's definitions, over plain records. Assumes nothing.
-use Rattle.std.proofs.Common.{◌≡◌, ℕ, ◌+◌, ◌-◌, ◌*◌, ◌/◌, ◌%◌, ◌<◌, ◌≤◌, Bool, true, false, not, ◌&&◌, eqb, ltb, leb, ◌⊎◌, inl, inr, List, [], ◌∷◌, ◌++◌, length, get_or, take, drop, replicate, sym, refl, ap, ◌∙◌, ap₂, subst, arith, take-append-drop, length-take-le, ltb-false, le-ltb, lt-ltb, eq-eqb, ne_eqb, eqb-true, le-leb, leb-true}
+use Rattle.std.proofs.Common.{◌≡◌, ℕ, ◌+◌, ◌-◌, ◌*◌, ◌/◌, ◌%◌, ◌<◌, ◌≤◌, Bool, true, false, not, ◌&&◌, eqb, ltb, leb, ◌⊎◌, inl, inr, List, [], ◌∷◌, ◌++◌, length, get_or, take, drop, replicate, sym, refl, ap, ◌∙◌, ap₂, subst, arith, take-append-drop, length-take-le, ltb-false, le-ltb, lt-ltb, eq-eqb, ne_eqb, eqb-true, le-leb, leb-true, leb-false, min, ◌^◌}
+use Rattle.std.proofs.Math.Nat.{min-eq_left, min-eq_right}
 use borrow.Author.Tests.{lt-leb, not-false, not-true}
 use lib.Seq.{take-append-le}
 use Rattle.aes_round.specs.Bytes.{tab}
@@ -13,7 +14,7 @@ use Rattle.echo.specs.Digest.{initial}
 use Rattle.echo.specs.Families.{block_size, chaining_size}
 use Rattle.echo.specs.Placed.{Placed}
 use Rattle.echo.specs.Refusals.{◌when◌}
-use Rattle.echo.specs.Session.{add_answer, add_bits, add_bits_answer, add_bits_refusal, admitted, all_zero, bit_limit, blank, final_chaining, is_session, limit}
+use Rattle.echo.specs.Session.{add_answer, add_bits, add_bits_answer, add_bits_refusal, admitted, all_zero, bit_limit, blank, final_chaining, is_session}
 use Rattle.echo.specs.Session.{made, open_answer, open_refusal, opened, read_answer, read_leaves, read_refusal, session_digest}
 use Rattle.echo.proofs.Laws.Bits.{Sized}
 use Rattle.echo.proofs.Laws.Families.{digest_in_chaining, sizes}
@@ -188,20 +189,25 @@ module _ (s : Session) (piece : List ℕ) (count : ℕ) where
     unfolding add_bits_answer
     added t d = rw (← none, d)
 
--- whole bytes that are too many
-module _ (s : Session) (piece : List ℕ) (long : limit < length piece) (a : Bool) (e : a ≡ is_session s) where
-  pub over_3 : a ≡ false → ◌≡◌ {A = Answer} (record { refusal = 3; session = s }) (add_answer s piece)
-  unfolding add_answer
-  over_3 fails = not_added s piece (8 * length piece) NoSession (add_3 s piece (8 * length piece) a e (ap not fails))
+-- more bits than any session has are refused alike, however many they are
+too_many_alike : (s : Session) (piece : List ℕ) (m n : ℕ) → bit_limit < m → bit_limit < n → add_bits_answer s piece m ≡ add_bits_answer s piece n
+too_many_alike s piece m n p q = by (is_session s) refl
+  where
+    by : (a : Bool) → a ≡ is_session s → add_bits_answer s piece m ≡ add_bits_answer s piece n
+    by false e = sym (not_added s piece m NoSession (add_3 s piece m false e refl)) ∙ not_added s piece n NoSession (add_3 s piece n false e refl)
+    by true e =
+        sym (not_added s piece m TooLong (add_4 s piece m true e refl (omega (arith, p))))
+        ∙ not_added s piece n TooLong (add_4 s piece n true e refl (omega (arith, q)))
 
-  pub over_4 : a ≡ true → ◌≡◌ {A = Answer} (record { refusal = 4; session = s }) (add_answer s piece)
-  unfolding add_answer
-  over_4 holds = not_added s piece (8 * length piece) TooLong (add_4 s piece (8 * length piece) a e (ap not holds) (omega arith))
-
--- and those that may not be
-pub as_bits : (s : Session) (piece : List ℕ) (r : Answer) → r ≡ add_bits_answer s piece (8 * length piece) → r ≡ add_answer s piece
+-- eight bits for each byte of a piece, as far as 64 bits count
+pub counted : (s : Session) (piece : List ℕ) (n : ℕ) → n ≡ min (length piece * 8) (2 ^ 64 - 1) → (r : Answer) → r ≡ add_bits_answer s piece n
+    → r ≡ add_answer s piece
 unfolding add_answer
-as_bits s piece r e = e
+counted s piece n e r d = d ∙ by (leb (length piece * 8) (2 ^ 64 - 1)) refl
+  where
+    by : (b : Bool) → leb (length piece * 8) (2 ^ 64 - 1) ≡ b → add_bits_answer s piece n ≡ add_bits_answer s piece (8 * length piece)
+    by true p = ap (add_bits_answer s piece) (omega (arith, e ∙ min-eq_left (leb-true _ _ p)))
+    by false p = too_many_alike s piece n (8 * length piece) (omega (arith, e ∙ min-eq_right (omega (arith, leb-false _ _ p)))) (omega (arith, leb-false _ _ p))
 
 -- ---- opening
 

@@ -19,7 +19,7 @@ use Rattle.hmac.specs.DoublePipe.{block_size}
 use Rattle.hmac.specs.Hmac.{tag_of}
 use Rattle.hmac.specs.Routines.{check_answer, check_refusal, make_leaves, make_refusal, too_long}
 use Rattle.hmac.specs.Same.{same}
-use Rattle.hmac.specs.TagSession.{add_tag_answer, add_tag_bytes, add_tag_refusal, check_tag_answer, open_tag_answer, open_tag_refusal, opened_tag, read_tag_answer}
+use Rattle.hmac.specs.TagSession.{add_tag_answer, add_tag_bytes, add_tag_refusal, check_tag_answer, open_tag_answer, open_tag_refusal, opened_tag}
 use Rattle.hmac.specs.TagSession.{read_tag_leaves, read_tag_refusal, session_tag}
 use Rattle.hmac.proofs.Laws.Texts.{checks_tag, holds_bits, holds_count, holds_session, holds_tag, opens_tag, takes_tag}
 
@@ -138,10 +138,9 @@ module _ (h : ℕ) (salt key message : List ℕ) where
           read_number =
               rw (whole_is z y d w, holds_session h salt key (passed z).0 message (fits z y d w), holds_bits h salt key message) (not_refused z y d w small)
 
-          pub make_reads : (r : TagAnswer) → r ≡ read_tag_answer y.session (length room)
-              → r.refusal ≡ make_refusal h (length salt) (length key) (length message) (length room)
-          unfolding read_tag_answer
-          make_reads r q = ap (λ (u : TagAnswer). u.refusal) q ∙ read_number
+          pub make_reads : (n : ℕ) → n ≡ read_tag_refusal y.session (length room)
+              → n ≡ make_refusal h (length salt) (length key) (length message) (length room)
+          make_reads n q = q ∙ read_number
 
           pub left_reads : (u : List ℕ) → u ≡ read_tag_leaves y.session room → u ≡ make_leaves h salt key message room
           unfolding read_tag_leaves make_leaves

@@ -1,5 +1,6 @@
 -- K0 as the code makes it, and the digest sessions that begin with it. Assumes nothing.
 use mathlib.Core.Path.{◌≡◌, refl, sym, ap, ◌∙◌}
+use Rattle.std.proofs.Common.{le_refl}
 use mathlib.Core.Bool.{Bool, true, false}
 use mathlib.Core.List.{List, ◌++◌, append_assoc}
 use Prim.Native.Nat.{ℕ, ◌+◌, ◌-◌, ◌/◌, ◌%◌, ◌<◌, ◌≤◌}
@@ -9,8 +10,8 @@ use lib.Bits.{bit_xor}
 use lib.Dec.{ltb}
 use lib.ListN.{drop, get_or, get_or-replicate, length, length-append, length-replicate, replicate, replicate-append-replicate, take}
 use lib.Seq.{drop_at, get_or-take, length-take-le, take_at}
-use Rattle.aes_round.specs.Bytes.{tab, xor, xor_bytes}
-use Rattle.aes_round.proofs.Promises.{code_xor, get_or-xor, length-xor, same_list, tab_ext, xor_is_tab}
+use Rattle.aes_round.specs.Bytes.{xor, xor_bytes}
+use Rattle.aes_round.proofs.Promises.{Filled, code_xor, fill_all, get_or-xor, length-xor, same_list, xor_is_tab}
 use Rattle.echo.specs.declared.mode.Mode.TheVariants.{DoublePipe}
 use Rattle.std.proofs.Common.{Result, Ok, IsOk}
 use Rattle.echo.specs.declared.session.Refused.{Refused}
@@ -113,10 +114,15 @@ room_for n l = sym (length-take-le n _ (omega (arith, length-replicate {A = ℕ}
 
 -- ---- a pad xored to it, and the session that begins with that
 
-pub xored_by : (pad : ℕ) (block : List ℕ) → tab 192 (λ k. bit_xor (get_or block k 0) pad) ≡ xor_bytes 192 block (replicate 192 pad)
-xored_by pad block =
-    tab_ext 192 _ _ (λ k l. code_xor _ pad ∙ ap (xor (get_or block k 0)) (sym (get_or-replicate 192 k pad 0 l)))
-    ∙ xor_is_tab 192 block (replicate 192 pad)
+-- the loop over the block rewrites it from the front: the byte that comes next is still the old one
+pub padded_next : (k pad : ℕ) (f : ℕ → ℕ) (block r : List ℕ) → Filled 192 f block k r → k < 192
+    → bit_xor (get_or r k 0) pad ≡ xor (get_or block k 0) (get_or (replicate 192 pad) k 0)
+padded_next k pad f block r F l =
+    code_xor (get_or r k 0) pad ∙ ap (λ (y : ℕ). xor y pad) (F.rest k (le_refl k)) ∙ ap (xor (get_or block k 0)) (sym (get_or-replicate 192 k pad 0 l))
+
+pub padded_all : (k pad : ℕ) (block r : List ℕ) → Filled 192 (λ j. xor (get_or block j 0) (get_or (replicate 192 pad) j 0)) block k r → 192 ≤ k
+    → r ≡ xor_bytes 192 block (replicate 192 pad)
+padded_all k pad block r F h = fill_all 192 _ block k r F h ∙ xor_is_tab 192 block (replicate 192 pad)
 
 module _ (h b pad : ℕ) (block padded : List ℕ) (e : padded ≡ xor_bytes 192 block (replicate 192 pad)) (size : b ≡ block_size h) where
   pub padded_long : b ≤ length padded

@@ -255,8 +255,8 @@ module _ (t : TagSession) (is : is_tag_session t ≡ true) where
 -- ---- reading and checking
 
 module _ (t : TagSession) (room : List ℕ) (a : Bool) (e : a ≡ is_tag_session t) where
-  pub read_none : not a ≡ true → ◌≡◌ {A = TagAnswer} (record { refusal = 3; session = t }) (read_tag_answer t (length room))
-  unfolding read_tag_answer read_tag_refusal
+  pub read_none : not a ≡ true → 3 ≡ read_tag_refusal t (length room)
+  unfolding read_tag_refusal
   read_none fails = rw (← e, not-true a fails)
 
   pub left_none : not a ≡ true → room ≡ read_tag_leaves t room
@@ -276,13 +276,11 @@ module _ (t : TagSession) (a : Bool) (e : a ≡ is_tag_session t) (holds : not a
     size = ap (λ (s : Session). s.bits / 8) d ∙ ap (λ (n : ℕ). n / 8) (closed_bits t is_tag)
 
     module _ (room : List ℕ) where
-      pub read_closed : (x : Answer) → x ≡ read_answer c (length room)
-          → ◌≡◌ {A = TagAnswer} (record { refusal = x.refusal; session = t }) (read_tag_answer t (length room))
-      unfolding read_tag_answer read_tag_refusal
+      pub read_closed : (x : Answer) → x ≡ read_answer c (length room) → x.refusal ≡ read_tag_refusal t (length room)
+      unfolding read_tag_refusal
       read_closed x r = by (ltb (length room) (t.outer.bits / 8)) refl
         where
-          by : (b : Bool) → ltb (length room) (t.outer.bits / 8) ≡ b
-              → ◌≡◌ {A = TagAnswer} (record { refusal = x.refusal; session = t }) (read_tag_answer t (length room))
+          by : (b : Bool) → ltb (length room) (t.outer.bits / 8) ≡ b → x.refusal ≡ read_tag_refusal t (length room)
           by true p = rw (is_tag, p, r, (refuses_room c room is (omega (arith, size, ltb-true (length room) (t.outer.bits / 8) p))).0)
           by false p = rw (is_tag, p, r, (reads_room c room is (omega (arith, size, ltb-false (length room) (t.outer.bits / 8) p))).0)
 
@@ -297,6 +295,11 @@ module _ (t : TagSession) (a : Bool) (e : a ≡ is_tag_session t) (holds : not a
               (l
               ∙ (reads_room c room is (omega (arith, size, ltb-false (length room) (t.outer.bits / 8) p))).1
               ∙ ap₂ (λ (s : Session) (n : ℕ). session_digest s ++ drop n room) d size)
+
+-- what `read` answers goes by the number alone
+pub handed_back : (t : TagSession) (room n : ℕ) → n ≡ read_tag_refusal t room → ◌≡◌ {A = TagAnswer} (record { refusal = n; session = t }) (read_tag_answer t room)
+unfolding read_tag_answer
+handed_back t room n e = ap (λ (k : ℕ). record { refusal = k; session = t }) e
 
 -- ---- a tag that is read into 64 bytes, whose room is enough for any
 

@@ -1,11 +1,12 @@
--- `xored` meets its contract, byte by byte. Assumes nothing.
-use Rattle.std.proofs.Common.{◌∙◌, rules}
-use Rattle.std.specs.Int.Bits.{bit_xor}
-use Rattle.aes_round.proofs.Promises.{mapped}
-use Rattle.hmac.proofs.Laws.KeyBlock.{xored_by}
+-- `xored` meets its contract: the loop rewrites the block from the front. Assumes nothing.
+use Rattle.std.proofs.Common.{rules}
+use Rattle.aes_round.proofs.Promises.{fill_more}
+use Rattle.hmac.proofs.Laws.KeyBlock.{padded_all, padded_next}
 use Rattle.hmac.proofs.key_block.xored.Goals as goal
 
+pub loop-byte-preserved : goal.loop-byte-preserved
+loop-byte-preserved c =
+    fill_more 192 _ _ _ _ _ c.loop-byte.invariant (search rules) (padded_next _ _ _ _ _ c.loop-byte.invariant (search rules))
+
 pub returns : goal.returns
-returns c =
-    mapped _ 192 (λ x. bit_xor x c.args.pad) _ (λ x y f' call. search rules) _ _ c.map.ensures.items
-    ∙ xored_by c.args.pad c.args.block
+returns c = padded_all _ _ _ _ c.loop-byte.invariant (search rules)

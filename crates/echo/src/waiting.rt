@@ -30,16 +30,18 @@ impl Session {
     }
 
     // One byte more, `at` the waiting bytes in use and `taken` the message bits, which are counted outside: counted in the session, byte by byte, they
-    // make a digest a tenth slower. Answers how many are in use then.
-    fn put(&mut self, at: usize, taken: u64, x: u8) -> usize
+    // make a digest a tenth slower. So does the block size, read off the session for each byte. Answers how many are in use then.
+    fn put(&mut self, block: usize, at: usize, taken: u64, x: u8) -> usize
+        requires block_value { block ≡ block_of self.old }
         requires at_value { at ≡ taken / 8 % block_of self.old }
         requires taken_bound { taken + 8 ≤ bit_limit }
         ensures value { result ≡ (taken + 8) / 8 % block_of self.new }
         ensures kept { self.new.taken ≡ self.old.taken }
+        ensures block_kept { block_of self.new ≡ block_of self.old }
         ensures after { made self.new.mode self.new.bits self.new.salt self.new.chaining (taken + 8) self.new.waiting ≡ add_byte (made self.old.mode self.old.bits self.old.salt self.old.chaining taken self.old.waiting) x }
     {
         self.waiting[at] = x;
-        if at + 1 < block_size(self.mode, self.bits) {
+        if at + 1 < block {
             return at + 1;
         }
         self.compress(taken + 8);
@@ -54,10 +56,11 @@ impl Session {
         ensures { self.new ≡ add_bits self.old piece.now count }
     {
         let whole = (count / 8) as usize;
-        let mut at = (self.taken / 8 % (block_size(self.mode, self.bits) as u64)) as usize;
+        let block = block_size(self.mode, self.bits);
+        let mut at = (self.taken / 8 % (block as u64)) as usize;
         let mut taken = self.taken;
         for x in &piece[..whole] {
-            at = self.put(at, taken, *x);
+            at = self.put(block, at, taken, *x);
             taken += 8;
         }
         self.taken += count;

@@ -8,24 +8,24 @@ use Rattle.echo.proofs.session.Session.put.Goals as goal
 pub bounds-self-at : goal.bounds-self-at
 bounds-self-at c = search place_small
 
-pub returns-then-at-block_size-clause-value : goal.returns-then-at-block_size-clause-value
-returns-then-at-block_size-clause-value c =
+pub returns-then-at-block-clause-value : goal.returns-then-at-block-clause-value
+returns-then-at-block-clause-value c =
     let s = c.args.self.now in
-    next_place (made s.mode s.bits s.salt s.chaining c.args.taken s.waiting) _ _ c.requires.at_value c.block_size.ensures (search rules)
+    next_place (made s.mode s.bits s.salt s.chaining c.args.taken s.waiting) _ _ c.requires.at_value c.requires.block_value (search rules)
 
-pub returns-then-at-block_size-clause-after : goal.returns-then-at-block_size-clause-after
-returns-then-at-block_size-clause-after c =
+pub returns-then-at-block-clause-after : goal.returns-then-at-block-clause-after
+returns-then-at-block-clause-after c =
     let s = c.args.self.now in
-    put_more (made s.mode s.bits s.salt s.chaining c.args.taken s.waiting) _ _ c.requires.at_value c.block_size.ensures (search rules) c.args.x
+    put_more (made s.mode s.bits s.salt s.chaining c.args.taken s.waiting) _ _ c.requires.at_value c.requires.block_value (search rules) c.args.x
 
 pub returns-clause-value : goal.returns-clause-value
 returns-clause-value c =
     let s = c.args.self.now in
-    first_place (made s.mode s.bits s.salt s.chaining c.args.taken s.waiting) _ _ c.requires.at_value c.block_size.ensures (search rules) c.args.x _
+    first_place (made s.mode s.bits s.salt s.chaining c.args.taken s.waiting) _ _ c.requires.at_value c.requires.block_value (search rules) c.args.x _
     (ap (λ (u : Session). made u.mode u.bits u.salt u.chaining (c.args.taken + 8) u.waiting) c.compress.ensures)
 
 pub returns-clause-after : goal.returns-clause-after
 returns-clause-after c =
     let s = c.args.self.now in
-    put_full (made s.mode s.bits s.salt s.chaining c.args.taken s.waiting) _ _ c.requires.at_value c.block_size.ensures (search rules) c.args.x _
+    put_full (made s.mode s.bits s.salt s.chaining c.args.taken s.waiting) _ _ c.requires.at_value c.requires.block_value (search rules) c.args.x _
     (ap (λ (u : Session). made u.mode u.bits u.salt u.chaining (c.args.taken + 8) u.waiting) c.compress.ensures)

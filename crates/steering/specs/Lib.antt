@@ -4,6 +4,7 @@ pub mod Records
 pub mod Kinds
 pub mod Answers
 pub mod Reading
+pub mod Standing
 pub mod Parsing
 pub mod Writing
 pub mod Fingerprint

@@ -3,7 +3,7 @@ ghost use Rattle.std.specs.Prelude.{◌≡◌};
 ghost use Rattle.steering.specs.Answers.{counted_of};
 ghost use Rattle.steering.specs.Parsing.{count_of, parse};
 
-use super::reading::read_at;
+use super::reading::stands_at;
 use super::refusals::Refusal;
 
 // Counts the records of a table; or refuses by 8, 9 or 10, for the record nearest the front.
@@ -12,7 +12,7 @@ pub fn count(table: &[u8]) -> Result<usize, Refusal>
 {
     let mut at = 0;
     let mut records: usize = 0;
-    while let Some((_, next)) = read_at(table, at)? {
+    while let Some((_, next)) = stands_at(table, at)? {
         at = next;
         records += 1;
     }

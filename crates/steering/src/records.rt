@@ -70,18 +70,18 @@ pub(crate) fn record_of(kind: Kind, body: &[u8]) -> Record
 {
     match kind {
         Kind::Node => Record::Node(NodeAddress {
-            address: number(body),
+            address: number(&body[..6]),
         }),
         Kind::LowFloor => Record::Floor(JoinFloor {
             radio: Radio::Low,
-            level: number(body) as u16,
+            level: number(&body[..2]) as u16,
         }),
         Kind::HighFloor => Record::Floor(JoinFloor {
             radio: Radio::High,
-            level: number(body) as u16,
+            level: number(&body[..2]) as u16,
         }),
         Kind::Hold => Record::Hold(HoldTime {
-            time: number(body) as u32,
+            time: number(&body[..4]) as u32,
         }),
         Kind::Note => Record::Note(Note {
             first: number(&body[0..8]),

@@ -8,6 +8,7 @@ use native.Mathlib.Omega.{arith}
 use borrow.Author.Tests.{eq-eqb, eqb-false, eqb-true, le-ltb, lt-ltb, ltb-false, ltb-true, ne_eqb}
 use lib.Dec.{eqb, ltb}
 use lib.ListN.{drop, get_or, length, length-drop, take}
+use lib.Seq.{length-take-le}
 use Rattle.steering.specs.Answers.{End, Found, Reading, Refused}
 use Rattle.steering.specs.Kinds.{kind_byte}
 use Rattle.steering.specs.Reading.{read_at, record_at}
@@ -66,9 +67,11 @@ module _ (t : List ℕ) (place : ℕ) (a : place ≤ length t) (b : length t ≤
     pub cut : length t - (place + 1) < n → Refused 10 place ≡ read_at t place
     cut = cut_short t place a b c n same some
 
-    pub read : n ≤ length t - (place + 1) → (m : ℕ) → m ≡ n → (r : Record) → r ≡ record_of (kind_byte kind) (take m (drop (place + 1) t))
-        → Found r (place + 1 + n) ≡ read_at t place
-    read s m f r g = whole t place a b c n same some m r (g ∙ ap (λ (k : ℕ). record_of k (take m (drop (place + 1) t))) is) f s
+    pub stands : n ≤ length t - (place + 1)
+        → Found (record_of (kind_byte kind) (take (body_length (kind_byte kind)) (drop (place + 1) t))) (place + 1 + n) ≡ read_at t place
+    stands s =
+        whole t place a b c n same some (body_length (kind_byte kind)) _
+        (ap (λ (k : ℕ). record_of k (take (body_length (kind_byte kind)) (drop (place + 1) t))) is) (sym e) s
 
 -- what stands where a record was found
 pub record Here (t : List ℕ) (place : ℕ) (r : Record) (next : ℕ) : Type 0 where
@@ -149,3 +152,24 @@ found_short t place r next e = let H = found t place r next e in omega (arith, H
 -- behind a record that the code read, less of the table is left
 pub less_left : (t : List ℕ) (at : ℕ) (r : Record) (next : ℕ) → Found r next ≡ read_at t at → length t - next < length t - at
 less_left t at r next e = let H = found t at r next e in omega arith
+
+-- what stands at a place is read: its kind is known by name, and its body lies between the kind byte and the next place
+module _ (t : List ℕ) (place : ℕ) (kind : Kind) (next : ℕ) (is : kind_byte kind ≡ get_or t place 0)
+    (e : Found (record_of (kind_byte kind) (take (body_length (kind_byte kind)) (drop (place + 1) t))) next ≡ read_at t place) where
+  size : body_length (kind_byte kind) ≡ body_length (get_or t place 0)
+  size = ap body_length is
+
+  here : next - (place + 1) ≡ body_length (kind_byte kind)
+  here = let H = found t place _ next e in omega (arith, H.next_is, size)
+
+  pub body_ordered : place + 1 ≤ next
+  body_ordered = let H = found_within t place _ next e in omega arith
+
+  pub body_last : next ≤ length t
+  body_last = (found_within t place _ next e).1
+
+  pub body_count : length (take (next - (place + 1)) (drop (place + 1) t)) ≡ body_length (kind_byte kind)
+  body_count = length-take-le (next - (place + 1)) (drop (place + 1) t) (omega (arith, length-drop (place + 1) t, body_last, body_ordered)) ∙ here
+
+  pub body_read : (r : Record) → r ≡ record_of (kind_byte kind) (take (next - (place + 1)) (drop (place + 1) t)) → Found r next ≡ read_at t place
+  body_read r f = ap (λ (x : Record). Found x next) (f ∙ ap (λ (n : ℕ). record_of (kind_byte kind) (take n (drop (place + 1) t))) here) ∙ e

@@ -67,25 +67,25 @@ module _ (kind : Kind) (body : List ℕ) (l : length body ≡ body_length (kind_
   pub long : (other : Kind) → kind ≡ other → length body ≡ body_length (kind_byte other)
   long other e = l ∙ ap (λ (k : Kind). body_length (kind_byte k)) e
 
-  -- all of it is one number
-  all : (n x : ℕ) → length body ≡ n → x ≡ big_endian body → x ≡ number_at n 0 body
-  all n x m e = e ∙ sym (ap big_endian (take_all n body (omega (arith, m))))
+  -- as many bytes as it has are all of it
+  all : (n x : ℕ) → length body ≡ n → x ≡ number_at n 0 body → x ≡ big_endian body
+  all n x m e = e ∙ ap big_endian (take_all n body (omega (arith, m)))
 
-  pub node_read : kind ≡ NodeKind → (x : ℕ) → x ≡ big_endian body → Node (record { address = x }) ≡ record_of (kind_byte kind) body
-  unfolding body_length record_of
-  node_read k x e = rw (k, all 6 x (long NodeKind k) e) refl
+  pub node_read : kind ≡ NodeKind → (x : ℕ) → x ≡ number_at 6 0 body → Node (record { address = x }) ≡ record_of (kind_byte kind) body
+  unfolding record_of
+  node_read k x e = rw (k, e) refl
 
-  pub low_read : kind ≡ LowFloor → (x : ℕ) → x ≡ big_endian body → Floor (record { radio = Low; level = x }) ≡ record_of (kind_byte kind) body
-  unfolding body_length record_of
-  low_read k x e = rw (k, all 2 x (long LowFloor k) e) refl
+  pub low_read : kind ≡ LowFloor → (x : ℕ) → x ≡ number_at 2 0 body → Floor (record { radio = Low; level = x }) ≡ record_of (kind_byte kind) body
+  unfolding record_of
+  low_read k x e = rw (k, e) refl
 
-  pub high_read : kind ≡ HighFloor → (x : ℕ) → x ≡ big_endian body → Floor (record { radio = High; level = x }) ≡ record_of (kind_byte kind) body
-  unfolding body_length record_of
-  high_read k x e = rw (k, all 2 x (long HighFloor k) e) refl
+  pub high_read : kind ≡ HighFloor → (x : ℕ) → x ≡ number_at 2 0 body → Floor (record { radio = High; level = x }) ≡ record_of (kind_byte kind) body
+  unfolding record_of
+  high_read k x e = rw (k, e) refl
 
-  pub hold_read : kind ≡ HoldKind → (x : ℕ) → x ≡ big_endian body → Hold (record { time = x }) ≡ record_of (kind_byte kind) body
-  unfolding body_length record_of
-  hold_read k x e = rw (k, all 4 x (long HoldKind k) e) refl
+  pub hold_read : kind ≡ HoldKind → (x : ℕ) → x ≡ number_at 4 0 body → Hold (record { time = x }) ≡ record_of (kind_byte kind) body
+  unfolding record_of
+  hold_read k x e = rw (k, e) refl
 
   pub note_read : kind ≡ NoteKind → (a b c d : ℕ) → a ≡ number_at 8 0 body → b ≡ number_at 8 8 body → c ≡ number_at 8 16 body → d ≡ number_at 8 24 body
       → Note (record { first = a; second = b; third = c; fourth = d }) ≡ record_of (kind_byte kind) body
@@ -93,18 +93,18 @@ module _ (kind : Kind) (body : List ℕ) (l : length body ≡ body_length (kind_
   note_read k a b c d e f g h = rw (k, e, f, g, h) refl
 
   -- a number of n bytes is below 256^n
-  is_below : (fits : (k : ℕ) → Fits w8 (get_or body k 0)) (n x : ℕ) → length body ≡ n → x ≡ big_endian body → x < 256 ^ n
-  is_below fits n x m e = rw (e, ← m) (below body (λ k. (fits k).fits))
+  is_below : (fits : (k : ℕ) → Fits w8 (get_or body k 0)) (n x : ℕ) → length body ≡ n → x ≡ number_at n 0 body → x < 256 ^ n
+  is_below fits n x m e = rw (all n x m e, ← m) (below body (λ k. (fits k).fits))
 
-  pub low_fits : kind ≡ LowFloor → ((k : ℕ) → Fits w8 (get_or body k 0)) → (x : ℕ) → x ≡ big_endian body → Fits w16 x
+  pub low_fits : kind ≡ LowFloor → ((k : ℕ) → Fits w8 (get_or body k 0)) → (x : ℕ) → x ≡ number_at 2 0 body → Fits w16 x
   unfolding body_length
   low_fits k fits x e = record { fits = is_below fits 2 x (long LowFloor k) e }
 
-  pub high_fits : kind ≡ HighFloor → ((k : ℕ) → Fits w8 (get_or body k 0)) → (x : ℕ) → x ≡ big_endian body → Fits w16 x
+  pub high_fits : kind ≡ HighFloor → ((k : ℕ) → Fits w8 (get_or body k 0)) → (x : ℕ) → x ≡ number_at 2 0 body → Fits w16 x
   unfolding body_length
   high_fits k fits x e = record { fits = is_below fits 2 x (long HighFloor k) e }
 
-  pub hold_fits : kind ≡ HoldKind → ((k : ℕ) → Fits w8 (get_or body k 0)) → (x : ℕ) → x ≡ big_endian body → Fits w32 x
+  pub hold_fits : kind ≡ HoldKind → ((k : ℕ) → Fits w8 (get_or body k 0)) → (x : ℕ) → x ≡ number_at 4 0 body → Fits w32 x
   unfolding body_length
   hold_fits k fits x e = record { fits = is_below fits 4 x (long HoldKind k) e }
 

@@ -1,22 +1,23 @@
--- `read_at` meets its contract: at each return the tests that led there say which case of `read_at` holds. Assumes nothing.
-use native.Mathlib.Nat.{add-sub_cancel_left}
-use Rattle.steering.proofs.Laws.Reading.{at_end, cut, no_kind, past_end, read, too_long}
+-- `read_at` meets its contract: the record is that of the kind and the body that stand there. Assumes nothing.
+use Rattle.steering.proofs.Laws.Reading.{body_count, body_last, body_ordered, body_read}
 use Rattle.steering.proofs.reading.read_at.Goals as goal
 
-pub returns-then-n-place : goal.returns-then-n-place
-returns-then-n-place c = search past_end
+pub slice_bounds-record_of-count : goal.slice_bounds-record_of-count
+slice_bounds-record_of-count c =
+    let e = rw c.in-Some.is at c.in_ok-kind.ensures in body_ordered _ _ _ _ e.kind e.reading
 
-pub returns-then-n-gt4096 : goal.returns-then-n-gt4096
-returns-then-n-gt4096 c = search too_long
+pub slice_bounds-record_of-start : goal.slice_bounds-record_of-start
+slice_bounds-record_of-start c =
+    let e = rw c.in-Some.is at c.in_ok-kind.ensures in body_ordered _ _ _ _ e.kind e.reading
 
-pub returns-then-place-n : goal.returns-then-place-n
-returns-then-place-n c = search at_end
+pub slice_bounds-record_of-end : goal.slice_bounds-record_of-end
+slice_bounds-record_of-end c =
+    let e = rw c.in-Some.is at c.in_ok-kind.ensures in body_last _ _ _ _ e.kind e.reading
 
-pub returns-in_default : goal.returns-in_default
-returns-in_default c = search (no_kind, c.in_default.ensures.1)
+pub record_of-requires : goal.record_of-requires
+record_of-requires c =
+    let e = rw c.in-Some.is at c.in_ok-kind.ensures in body_count _ _ _ _ e.kind e.reading
 
-pub returns-then-n-at : goal.returns-then-n-at
-returns-then-n-at c = search (cut, c.in-Ok.ensures)
-
-pub returns : goal.returns
-returns c = search (read, add-sub_cancel_left, c.in-Ok.ensures)
+pub returns-in-Some : goal.returns-in-Some
+returns-in-Some c =
+    let e = rw c.in-Some.is at c.in_ok-kind.ensures in body_read _ _ _ _ e.kind e.reading _ c.record_of.ensures

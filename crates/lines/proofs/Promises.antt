@@ -3,15 +3,32 @@
 use mathlib.Core.Path.{◌≡◌}
 use mathlib.Core.Bool.{false, true}
 use mathlib.Core.List.{List, [], ◌∷◌, ◌++◌}
-use Prim.Native.Nat.{ℕ, ◌+◌, ◌/◌, ◌%◌, ◌<◌, ◌≤◌}
+use Prim.Native.Nat.{ℕ, ◌+◌, ◌/◌, ◌%◌, ◌<◌, ◌≤◌, min}
 use lib.ListN.{get_or, length, take}
 use Rattle.lines.specs.Decimal.{decimal_of}
-use Rattle.lines.specs.Lines.{spread}
+use Rattle.lines.specs.Lines.{Put, spread}
 use Rattle.lines.specs.Names.{escape_of, is_plain, mark_of}
 use Rattle.lines.proofs.Laws.Decimal as decimal
 use Rattle.lines.proofs.Laws.Lines as texts
 use Rattle.lines.proofs.Laws.Names as names
 use Rattle.lines.proofs.Laws.Texts as lines
+
+-- ---- texts put into a room
+
+pub put_length : (room : List ℕ) (at : ℕ) (text after : List ℕ) (r : ℕ) → Put room at text after r → length after ≡ length room
+put_length = texts.put_length
+
+pub put_nothing : (room : List ℕ) (at r : ℕ) → r ≡ min at (length room) → Put room at [] room r
+put_nothing = texts.put_nothing
+
+-- one behind the other
+pub put_join : (room : List ℕ) (at : ℕ) (xs mid : List ℕ) (i : ℕ) (ys after : List ℕ) (r : ℕ)
+    → Put room at xs mid i → Put mid i ys after r → Put room at (xs ++ ys) after r
+put_join = texts.put_join
+
+-- what is put at the front of a room that is long enough stands there
+pub put_stands : (room text after : List ℕ) (r : ℕ) → Put room 0 text after r → length text ≤ length room → take r after ≡ text
+put_stands = texts.put_stands
 
 -- ---- texts put into a line
 

@@ -1,8 +1,9 @@
 // Numbers in decimal.
-ghost use Rattle.std.specs.Prelude.{◌+◌, ◌%◌, ◌≡◌, ◌++◌, take};
+ghost use Rattle.std.specs.Prelude.{◌+◌, ◌%◌, ◌≡◌};
 ghost use Rattle.lines.specs.Decimal.{decimal_of};
+ghost use Rattle.lines.specs.Lines.{Put};
 
-use super::line::Line;
+use super::bytes::put;
 
 // The last digit of a number.
 fn last_digit(number: u64) -> u8
@@ -11,23 +12,18 @@ fn last_digit(number: u64) -> u8
     b'0' + (number % 10) as u8
 }
 
-impl<const N: usize> Line<N> {
-    // The last digit stands behind those of the number's front.
-    fn digits(&mut self, number: u64)
-        ensures { self.new ≡ take N (self.old ++ decimal_of number) }
-    {
-        if 10 <= number {
-            self.digits(number / 10);
-        }
-        self.text(&[last_digit(number)]);
+// The digits that a number needs, at least one. They are found from the last one on, and stand at the end of `digits`.
+pub fn put_decimal(room: &mut [u8], at: usize, number: u64) -> usize
+    ensures { Put room.old at (decimal_of number) room.new result }
+{
+    let mut digits = [0u8; 20];
+    digits[19] = last_digit(number);
+    let mut from = 19;
+    let mut rest = number / 10;
+    while 0 < rest {
+        from -= 1;
+        digits[from] = last_digit(rest);
+        rest /= 10;
     }
-
-    // The digits that a number needs, at least one.
-    pub fn decimal(&mut self, number: u64) -> &mut Self
-        ensures same_line { result.ghost_name ≡ self.entry.ghost_name }
-        ensures text { result.now ≡ take N (self.old ++ decimal_of number) }
-    {
-        self.digits(number);
-        self
-    }
+    put(room, at, &digits[from..20])
 }

@@ -1,9 +1,10 @@
 // Why a call of the system failed, in the words of the C library.
-ghost use Rattle.std.specs.Prelude.{◌≡◌, ◌++◌, take, MatchOption};
-ghost use Rattle.lines.specs.Decimal.{decimal_of};
-ghost use Rattle.lines.specs.Reasons.{bytes_of, number_of, reason_of};
+ghost use Rattle.std.specs.Prelude.{◌≡◌};
+ghost use Rattle.lines.specs.Lines.{Put};
+ghost use Rattle.lines.specs.Reasons.{number_of, reason_of};
 
-use super::line::Line;
+use super::bytes::put;
+use super::decimal::put_decimal;
 
 // An error number as C has it, of which none is below 0.
 fn number(error: i32) -> u64
@@ -12,36 +13,41 @@ fn number(error: i32) -> u64
     u64::try_from(error).unwrap_or(0)
 }
 
-// The text of those that opening, reading and writing files meet most.
-#[tactic(auto, unfolding(crate::specs::Reasons::bytes_of, crate::specs::Reasons::reason_of))]
-fn words(number: u64) -> Option<&'static str>
-    ensures { MatchOption result (reason_of number ≡ bytes_of "error " ++ decimal_of number)
-        (λ words. words.now ≡ reason_of number) }
+fn put_number(room: &mut [u8], at: usize, error: u64) -> usize
+    ensures { Put room.old at (reason_of error) room.new result }
 {
-    match number {
-        2 => Some("No such file or directory"),
-        5 => Some("Input/output error"),
-        9 => Some("Bad file descriptor"),
-        13 => Some("Permission denied"),
-        20 => Some("Not a directory"),
-        21 => Some("Is a directory"),
-        28 => Some("No space left on device"),
-        36 => Some("File name too long"),
-        _ => None,
+    if error == 2 {
+        return put(room, at, b"No such file or directory");
     }
+    if error == 5 {
+        return put(room, at, b"Input/output error");
+    }
+    if error == 9 {
+        return put(room, at, b"Bad file descriptor");
+    }
+    if error == 13 {
+        return put(room, at, b"Permission denied");
+    }
+    if error == 20 {
+        return put(room, at, b"Not a directory");
+    }
+    if error == 21 {
+        return put(room, at, b"Is a directory");
+    }
+    if error == 28 {
+        return put(room, at, b"No space left on device");
+    }
+    if error == 36 {
+        return put(room, at, b"File name too long");
+    }
+    let end = put(room, at, b"error ");
+    put_decimal(room, end, error)
 }
 
-impl<const N: usize> Line<N> {
-    // The reason behind an error number of Linux: its text, or `error N`.
-    #[tactic(auto, unfolding(crate::specs::Reasons::bytes_of))]
-    pub fn reason(&mut self, error: i32) -> &mut Self
-        ensures same_line { result.ghost_name ≡ self.entry.ghost_name }
-        ensures text { result.now ≡ take N (self.old ++ reason_of (number_of error)) }
-    {
-        let number = number(error);
-        match words(number) {
-            Some(words) => self.text(words.as_bytes()),
-            None => self.text(b"error ").decimal(number),
-        }
-    }
+// The reason behind an error number of Linux: the text of those that opening, reading and writing files meet most, and `error N` for any
+// other.
+pub fn put_reason(room: &mut [u8], at: usize, error: i32) -> usize
+    ensures { Put room.old at (reason_of (number_of error)) room.new result }
+{
+    put_number(room, at, number(error))
 }

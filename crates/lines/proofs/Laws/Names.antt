@@ -1,14 +1,17 @@
 -- Names, byte by byte, and their marks. Assumes nothing.
-use mathlib.Core.Path.{◌≡◌, refl, sym}
-use mathlib.Core.Bool.{Bool, true, false, cond, ◌&&◌, true≢false}
+use mathlib.Core.Path.{◌≡◌, ◌∙◌, refl, sym}
+use mathlib.Core.Bool.{Bool, true, false, true≢false}
 use mathlib.Core.List.{List, [], ◌∷◌}
-use Prim.Native.Nat.{ℕ}
+use Prim.Native.Nat.{ℕ, ◌+◌, ◌<◌, ◌≤◌, min}
+use native.Mathlib.Numerals.{add-one}
+use native.Mathlib.Omega.{arith}
 use borrow.Author.Tests.{eq-eqb, eqb-false, eqb-true, ne_eqb}
 use lib.Dec.{eqb}
-use Rattle.std.specs.Prelude.{All, Decides}
-use Rattle.std.proofs.lemmas.Bool.Decides.{Decides-by_and, Decides-eqb, same_from_decides}
-use Rattle.lines.specs.Lines.{spread}
+use lib.ListN.{drop, get_or, length}
+use lib.Seq.{drop-cons, drop-length}
+use Rattle.lines.specs.Lines.{Put, spread}
 use Rattle.lines.specs.Names.{escape_of, is_plain, letter_of, mark_of}
+use Rattle.lines.proofs.Laws.Lines.{put_join, put_nothing}
 
 -- ---- a byte
 
@@ -19,18 +22,58 @@ by_case {A} x y f g = bool_case (eqb x y) (λ t. f (eqb-true x y t)) (λ t. g (e
     bool_case true f g = f refl
     bool_case false f g = g refl
 
+module _ (x : ℕ) where
+  pub line_end : x ≡ 10 → 110 ≡ letter_of x
+  unfolding letter_of
+  line_end h = rw h
+
+  pub carriage_return : x ≡ 13 → 114 ≡ letter_of x
+  unfolding letter_of
+  carriage_return h = rw h
+
+  pub backslash : x ≡ 92 → 92 ≡ letter_of x
+  unfolding letter_of
+  backslash h = rw h
+
+  pub no_letter : (x ≡ 10 → ⊥) → (x ≡ 13 → ⊥) → (x ≡ 92 → ⊥) → 0 ≡ letter_of x
+  unfolding letter_of
+  no_letter a b c = simp (ne_eqb x 10 a, ne_eqb x 13 b, ne_eqb x 92 c)
+
+  module _ (l : ℕ) (e : l ≡ letter_of x) (room : List ℕ) (at : ℕ) (after : List ℕ) (r : ℕ) where
+    pub as_it_is : l ≡ 0 → Put room at (x ∷ []) after r → Put room at (escape_of x) after r
+    unfolding escape_of
+    as_it_is z p = rw (← e) (simp (eq-eqb l 0 z) p)
+
+    pub escaped : (l ≡ 0 → ⊥) → (mid : List ℕ) (end : ℕ) → Put room at (92 ∷ []) mid end → Put mid end (l ∷ []) after r
+        → Put room at (escape_of x) after r
+    unfolding escape_of
+    escaped z mid end p q = rw (← e) (simp (ne_eqb l 0 z) (put_join room at (92 ∷ []) mid end (l ∷ []) after r p q))
+
 -- ---- a name
 
-both : (b c : Bool) → cond b c false ≡ (b && c)
-both true c = refl
-both false c = refl
+module _ (name : List ℕ) (i : ℕ) where
+  pub plain_on : (l : ℕ) → i < length name → l ≡ letter_of (get_or name i 0) → l ≡ 0 → is_plain name ≡ is_plain (drop i name)
+      → is_plain name ≡ is_plain (drop (i + 1) name)
+  unfolding is_plain
+  plain_on l h e z p = p ∙ rw (drop-cons name i 0 h, ← e, add-one i) (simp (eq-eqb l 0 z))
 
-pub plain_each : (name : List ℕ) (r : Bool) → Decides r (All (λ x. letter_of x ≡ 0) name) → r ≡ is_plain name
-unfolding is_plain
-plain_each name r d =
-    same_from_decides r (is_plain name) d
-    (Decides-by_and (λ x. eqb (letter_of x) 0) (λ x. letter_of x ≡ 0) is_plain (λ x. Decides-eqb (letter_of x) 0) refl
-    (λ x xs. both (eqb (letter_of x) 0) (is_plain xs)) name)
+  pub not_plain : (l : ℕ) → i < length name → l ≡ letter_of (get_or name i 0) → (l ≡ 0 → ⊥) → is_plain name ≡ is_plain (drop i name)
+      → false ≡ is_plain name
+  unfolding is_plain
+  not_plain l h e z p = sym (p ∙ rw (drop-cons name i 0 h, ← e) (simp (ne_eqb l 0 z)))
+
+  pub plain : (n : ℕ) → i ≤ n → n ≤ i → n ≡ length name → is_plain name ≡ is_plain (drop i name) → true ≡ is_plain name
+  unfolding is_plain
+  plain n h g e p = let l : i ≡ length name = omega arith in sym (p ∙ rw (l, drop-length))
+
+module _ (name room : List ℕ) (at r : ℕ) (b : Bool) (e : b ≡ is_plain name) where
+  pub unmarked : b ≡ true → r ≡ min at (length room) → Put room at (mark_of name) room r
+  unfolding mark_of
+  unmarked t h = rw (← e, t) (put_nothing room at r h)
+
+  pub marked : b ≡ false → (after : List ℕ) → Put room at (92 ∷ []) after r → Put room at (mark_of name) after r
+  unfolding mark_of
+  marked f after p = rw (← e, f) p
 
 -- ---- what escaping makes of a byte, and of a name
 

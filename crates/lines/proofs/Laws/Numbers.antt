@@ -1,9 +1,8 @@
 -- Error numbers, as the code has them, at 32 bits with a sign. Assumes nothing.
-use mathlib.Core.List.{List, ◌++◌}
+use mathlib.Core.List.{List}
 use mathlib.Core.Path.{◌≡◌, ◌∙◌}
 use Prim.Native.Nat.{ℕ}
 use native.Mathlib.Omega.{arith}
-use lib.ListN.{take}
 use lib.IntN.{ℤ, nat_abs, negsuc, pos}
 use mir.Syntax.{w32}
 use mir.Val.{SFits, of_z, to_z}
@@ -11,7 +10,7 @@ use mir.ValLaws.{to_z-of_z}
 use Rattle.std.specs.Int.{FitsUnsignedBits}
 use Rattle.std.specs.Prelude.{Err, Ok, Result}
 use Rattle.std.specs.Result.{OkIff, result_unwrap_or}
-use Rattle.lines.proofs.Laws.Texts.{put_on}
+use Rattle.lines.specs.Lines.{Put}
 use Rattle.lines.specs.Reasons.{number_of, reason_of}
 
 module _ {E : Type 0} (n : ℕ) where
@@ -27,8 +26,11 @@ module _ {E : Type 0} (n : ℕ) where
   number_tried z r f p e = tried z r f (rw (to_z-of_z w32 z f) at p) e
 
 module _ (z : ℤ) (f : SFits w32 z) where
-  -- a text of two parts that is the reason, where both are put
-  pub reason_put : (size n : ℕ) (line text more next after : List ℕ) → n ≡ number_of (to_z w32 (of_z w32 z)) → reason_of n ≡ text ++ more
-      → next ≡ take size (line ++ text) → after ≡ take size (next ++ more) → after ≡ take size (line ++ reason_of (number_of z))
-  reason_put size n line text more next after e r p q =
-      rw (← to_z-of_z w32 z f, ← e, r) (put_on size line text more next after p q)
+  pub reason_of_lem : (n : ℕ) → n ≡ number_of (to_z w32 (of_z w32 z)) → (room : List ℕ) (at : ℕ) (after : List ℕ) (r : ℕ)
+      → Put room at (reason_of n) after r → Put room at (reason_of (number_of z)) after r
+  reason_of_lem n e room at after r p = rw (e, to_z-of_z w32 z f) at p
+
+  -- of an error number that is handed on as it is
+  pub reason_handed_on : (room : List ℕ) (at : ℕ) (after : List ℕ) (r : ℕ) → Put room at (reason_of (number_of (to_z w32 (of_z w32 z)))) after r
+      → Put room at (reason_of (number_of z)) after r
+  reason_handed_on room at after r p = rw (to_z-of_z w32 z f) at p

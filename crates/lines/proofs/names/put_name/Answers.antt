@@ -1,0 +1,16 @@
+-- `put_name` meets its contract: the name so far is put, and one more byte behind it. Assumes nothing.
+use borrow.Author.Rules.{rules}
+use Rattle.lines.proofs.Laws.Lines.{put_length, spread_all, spread_next, spread_none}
+use Rattle.lines.proofs.names.put_name.Goals as goal
+
+pub loop-i-init : goal.loop-i-init
+loop-i-init c = (search rules, search rules, search spread_none)
+
+pub loop-i-preserved : goal.loop-i-preserved
+loop-i-preserved c = (search rules, search rules, search spread_next)
+
+pub shape_of-room : goal.shape_of-room
+shape_of-room c = search put_length
+
+pub returns : goal.returns
+returns c = search spread_all

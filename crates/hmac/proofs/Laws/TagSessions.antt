@@ -297,7 +297,8 @@ module _ (t : TagSession) (a : Bool) (e : a ≡ is_tag_session t) (holds : not a
               ∙ ap₂ (λ (s : Session) (n : ℕ). session_digest s ++ drop n room) d size)
 
 -- what `read` answers goes by the number alone
-pub handed_back : (t : TagSession) (room n : ℕ) → n ≡ read_tag_refusal t room → ◌≡◌ {A = TagAnswer} (record { refusal = n; session = t }) (read_tag_answer t room)
+pub handed_back : (t : TagSession) (room n : ℕ) → n ≡ read_tag_refusal t room
+    → ◌≡◌ {A = TagAnswer} (record { refusal = n; session = t }) (read_tag_answer t room)
 unfolding read_tag_answer
 handed_back t room n e = ap (λ (k : ℕ). record { refusal = k; session = t }) e
 

@@ -13,13 +13,16 @@ returns-in_err-opened c =
 pub returns-in_err-whole : goal.returns-in_err-whole
 returns-in_err-whole c =
     rw (handed_on c.from_residual-in_err-whole.result _ c.from_residual-in_err-whole.ensures)
-    (check_not_added _ _ _ _ _ (open_handed _ _ _ _ c.in_ok-opened.ensures.refusal c.in_ok-opened.ensures.session) _ refl _ c.in_err-whole.ensures (some _))
+    (let opened = open_handed _ _ _ _ c.in_ok-opened.ensures.refusal c.in_ok-opened.ensures.session in
+    check_not_added _ _ _ _ _ opened _ refl _ c.in_err-whole.ensures (some _))
 
 pub returns-in_err-checked : goal.returns-in_err-checked
 returns-in_err-checked c =
     rw (handed_on c.from_residual-in_err-checked.result _ c.from_residual-in_err-checked.ensures)
-    (check_checks _ _ _ _ _ (open_handed _ _ _ _ c.in_ok-opened.ensures.refusal c.in_ok-opened.ensures.session) _ refl _ c.in_ok-whole.ensures refl _ c.in_err-checked.ensures)
+    (let opened = open_handed _ _ _ _ c.in_ok-opened.ensures.refusal c.in_ok-opened.ensures.session in
+    check_checks _ _ _ _ _ opened _ refl _ c.in_ok-whole.ensures refl _ c.in_err-checked.ensures)
 
 pub returns : goal.returns
 returns c =
-    check_checks _ _ _ _ _ (open_handed _ _ _ _ c.in_ok-opened.ensures.refusal c.in_ok-opened.ensures.session) _ refl _ c.in_ok-whole.ensures refl _ c.in_ok-checked.ensures
+    let opened = open_handed _ _ _ _ c.in_ok-opened.ensures.refusal c.in_ok-opened.ensures.session in
+    check_checks _ _ _ _ _ opened _ refl _ c.in_ok-whole.ensures refl _ c.in_ok-checked.ensures

@@ -16,13 +16,20 @@ returns-in_err-opened-clause-left c = left_not_opened _ _ _ _ _ (open_blank _ _ 
 pub returns-in_err-whole-clause-refusal : goal.returns-in_err-whole-clause-refusal
 returns-in_err-whole-clause-refusal c =
     rw (handed_on c.from_residual-in_err-whole.result _ c.from_residual-in_err-whole.ensures)
-    (make_not_added _ _ _ _ _ (open_handed _ _ _ _ c.in_ok-opened.ensures.refusal c.in_ok-opened.ensures.session) _ refl _ c.in_err-whole.ensures (some _))
+    (let opened = open_handed _ _ _ _ c.in_ok-opened.ensures.refusal c.in_ok-opened.ensures.session in
+    make_not_added _ _ _ _ _ opened _ refl _ c.in_err-whole.ensures (some _))
 
 pub returns-in_err-whole-clause-left : goal.returns-in_err-whole-clause-left
-returns-in_err-whole-clause-left c = left_not_added _ _ _ _ _ (open_handed _ _ _ _ c.in_ok-opened.ensures.refusal c.in_ok-opened.ensures.session) _ refl _ c.in_err-whole.ensures (some _)
+returns-in_err-whole-clause-left c =
+    let opened = open_handed _ _ _ _ c.in_ok-opened.ensures.refusal c.in_ok-opened.ensures.session in
+    left_not_added _ _ _ _ _ opened _ refl _ c.in_err-whole.ensures (some _)
 
 pub returns-clause-refusal : goal.returns-clause-refusal
-returns-clause-refusal c = make_reads _ _ _ _ _ (open_handed _ _ _ _ c.in_ok-opened.ensures.refusal c.in_ok-opened.ensures.session) _ refl _ c.in_ok-whole.ensures refl _ c.put_tag.ensures.refusal
+returns-clause-refusal c =
+    let opened = open_handed _ _ _ _ c.in_ok-opened.ensures.refusal c.in_ok-opened.ensures.session in
+    make_reads _ _ _ _ _ opened _ refl _ c.in_ok-whole.ensures refl _ c.put_tag.ensures.refusal
 
 pub returns-clause-left : goal.returns-clause-left
-returns-clause-left c = left_reads _ _ _ _ _ (open_handed _ _ _ _ c.in_ok-opened.ensures.refusal c.in_ok-opened.ensures.session) _ refl _ c.in_ok-whole.ensures refl _ c.put_tag.ensures.left
+returns-clause-left c =
+    let opened = open_handed _ _ _ _ c.in_ok-opened.ensures.refusal c.in_ok-opened.ensures.session in
+    left_reads _ _ _ _ _ opened _ refl _ c.in_ok-whole.ensures refl _ c.put_tag.ensures.left

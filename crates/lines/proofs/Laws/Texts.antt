@@ -23,6 +23,7 @@ put_behind size line text =
 
 -- ---- a text that is put into the room of a line, where the line ends
 
+-- what stands in front of the place behind it
 placed_line : (room : List ℕ) (at : ℕ) (text : List ℕ) → at ≤ length room
     → take (min (at + length text) (length room)) (placed room at text) ≡ take (length room) (take at room ++ text)
 unfolding placed
@@ -47,10 +48,12 @@ placed_line room at (x ∷ xs) h =
     (le_or_lt (length room) at)
 
 module _ (size end : ℕ) (room after : List ℕ) (r : ℕ) (line : List ℕ) where
+  -- the line, with the text behind it
   pub put_line : (text : List ℕ) → length room ≡ size → end ≤ size → take end room ≡ line → Put room end text after r
       → take r after ≡ take size (line ++ text)
   put_line text l h e p = rw (← e, ← l, p.room_is, p.place_is) (placed_line room end text (omega arith))
 
+  -- with four texts, one behind the other
   pub four_line : (a b c d : List ℕ) → length room ≡ size → end ≤ size → take end room ≡ line → Put room end (a ++ b ++ c ++ d) after r
       → take r after ≡ take size (line ++ a ++ b ++ c ++ d)
   four_line a b c d l h e p = put_line (a ++ b ++ c ++ d) l h e p ∙ simp append_assoc

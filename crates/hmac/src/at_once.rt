@@ -80,10 +80,9 @@ pub fn verify_tag(
 ) -> Result<(), Unverified>
     ensures { verification_of result ≡ verify_refusal bits salt.now key.now message.now tag.now }
 {
-    let right = check_tag(bits, salt, key, message, tag)?;
-    if right {
-        Ok(())
-    } else {
-        Err(Unverified::WrongTag)
+    match check_tag(bits, salt, key, message, tag) {
+        Ok(true) => Ok(()),
+        Ok(false) => Err(Unverified::WrongTag),
+        Err(refusal) => Err(Unverified::Refused(refusal)),
     }
 }

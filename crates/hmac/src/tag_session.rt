@@ -173,9 +173,14 @@ impl TagSession {
     pub fn check(self, tag: &[u8]) -> Result<Checked, RefusedTag>
         ensures { checking_of result ≡ check_tag_answer self tag.now }
     {
+        if !self.is_session() {
+            let refused = self.refused(Refusal::NoSession);
+            return Err(refused);
+        }
+        let closed = self.closed();
+        let n = (closed.bits / 8) as usize;
         let mut own = [0u8; 64];
-        self.read(&mut own)?;
-        let n = (self.outer.bits / 8) as usize;
+        let _ = closed.read(&mut own);
         Ok(Checked {
             yes: same(&own[..n], tag),
             session: self,

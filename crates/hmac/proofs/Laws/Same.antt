@@ -1,15 +1,17 @@
 -- Two lists compared: by their elements, and by the bits in which their bytes differ, taken together. Assumes nothing.
 use mathlib.Core.Path.{◌≡◌, refl, sym, ap, ap₂, ◌∙◌}
-use mathlib.Core.Bool.{Bool, true, false, ◌&&◌, true≢false}
+use mathlib.Core.Bool.{Bool, true, false, true≢false}
 use mathlib.Core.Logic.{◌↔◌}
 use mathlib.Core.List.{List, [], ◌∷◌}
-use Prim.Native.Nat.{ℕ}
+use Prim.Native.Nat.{ℕ, zero, suc, ◌+◌, ◌<◌, ◌≤◌}
+use native.Mathlib.Numerals.{add-one}
 use native.Mathlib.Omega.{arith}
+use borrow.Author.Count.{below_more}
 use borrow.Author.Tests.{eq-eqb, eqb-true}
 use lib.Bits.{and_le_l, and_le_r, bit_or, bit_xor, or_add_and}
 use lib.Dec.{eqb}
-use lib.ListN.{length}
-use Rattle.std.specs.List.{fold, zip}
+use lib.ListN.{get_or, length}
+use lib.Seq.{ext_get_or}
 use Rattle.aes_round.proofs.Promises.{code_xor, xor_self, xor_twice, xor_zero_l}
 use Rattle.aes_round.specs.Bytes.{xor}
 use Rattle.echo.proofs.Promises.{both}
@@ -43,56 +45,49 @@ not_same a b n = by (same a b) refl
 pub other_length : (a b : List ℕ) → (length b ≡ length a → ⊥) → false ≡ same a b
 other_length a b n = not_same a b (λ e. n (ap length (sym e)))
 
--- ---- all bits in which the bytes differ, taken together
+-- ---- the loop: all bits in which the first i bytes differ
 
-abbrev pub differing : ℕ → List ℕ → List ℕ → ℕ
-differing d a b = fold (λ bits p. bit_or bits (bit_xor p.0 p.1)) d (zip a b)
+unfoldable pub differing_bits : List ℕ → List ℕ → ℕ → ℕ
+differing_bits a b zero = 0
+differing_bits a b (suc i) = bit_or (differing_bits a b i) (bit_xor (get_or a i 0) (get_or b i 0))
 
--- bytes that differ in no bit are equal
-equal_bytes : (x y : ℕ) → bit_xor x y ≡ 0 → x ≡ y
-equal_bytes x y e = sym (xor_twice x y) ∙ ap (λ (z : ℕ). xor z y) (sym (code_xor x y) ∙ e) ∙ xor_zero_l y
+module _ (a b : List ℕ) where
+  pub no_bits : 0 ≡ differing_bits a b 0
+  unfolding differing_bits
+  no_bits = refl
 
--- one byte of each more
-module _ (d x y : ℕ) where
-  abbrev bits : ℕ
-  bits = bit_or d (bit_xor x y)
+  pub more_bits : (i d : ℕ) → d ≡ differing_bits a b i → bit_or d (bit_xor (get_or a i 0) (get_or b i 0)) ≡ differing_bits a b (i + 1)
+  unfolding differing_bits
+  more_bits i d e = rw (add-one, e)
 
-  none_before : bits ≡ 0 → d ≡ 0
-  none_before e = omega (arith, or_add_and d (bit_xor x y), and_le_r d (bit_xor x y))
+  -- bytes that differ in no bit are equal
+  equal_bytes : (x y : ℕ) → bit_xor x y ≡ 0 → x ≡ y
+  equal_bytes x y e = sym (xor_twice x y) ∙ ap (λ (z : ℕ). xor z y) (sym (code_xor x y) ∙ e) ∙ xor_zero_l y
 
-  none_here : bits ≡ 0 → x ≡ y
-  none_here e = equal_bytes x y (omega (arith, or_add_and d (bit_xor x y), and_le_l d (bit_xor x y)))
+  all_equal : (i : ℕ) → differing_bits a b i ≡ 0 → (k : ℕ) → k < i → get_or a k 0 ≡ get_or b k 0
+  unfolding differing_bits
+  all_equal zero e k h = absurd (omega arith)
+  all_equal (suc i) e k h =
+      let d = differing_bits a b i in
+      let x = bit_xor (get_or a i 0) (get_or b i 0) in
+      below_more (λ k. get_or a k 0 ≡ get_or b k 0) i
+      (all_equal i (omega (arith, or_add_and d x, and_le_r d x)))
+      (equal_bytes (get_or a i 0) (get_or b i 0) (omega (arith, or_add_and d x, and_le_l d x)))
+      k (omega arith)
 
-  none : d ≡ 0 → x ≡ y → bits ≡ 0
-  none z e = ap₂ bit_or z (ap (λ (w : ℕ). bit_xor x w) (sym e) ∙ code_xor x x ∙ xor_self x)
+  none_differ : a ≡ b → (i : ℕ) → differing_bits a b i ≡ 0
+  unfolding differing_bits
+  none_differ e zero = refl
+  none_differ e (suc i) =
+      ap₂ bit_or (none_differ e i)
+      (ap (λ (l : List ℕ). bit_xor (get_or a i 0) (get_or l i 0)) (sym e) ∙ code_xor (get_or a i 0) (get_or a i 0) ∙ xor_self (get_or a i 0))
 
-  one_more : eqb bits 0 ≡ (eqb d 0 && eqb x y)
-  one_more = by (eqb bits 0) (eqb d 0) (eqb x y) refl refl refl
+  pub same_by_bits : (d i n : ℕ) → d ≡ differing_bits a b i → n ≡ length a → length b ≡ n → i ≤ n → n ≤ i → eqb d 0 ≡ same a b
+  same_by_bits d i n e la lb most least = by (eqb d 0) refl
     where
-      by : (t u v : Bool) → eqb bits 0 ≡ t → eqb d 0 ≡ u → eqb x y ≡ v → eqb bits 0 ≡ (eqb d 0 && eqb x y)
-      by true u v p q r =
-          let z = eqb-true bits 0 p in rw (p, eq-eqb d 0 (none_before z), eq-eqb x y (none_here z))
-      by false true true p q r = absurd (true≢false (sym (eq-eqb bits 0 (none (eqb-true d 0 q) (eqb-true x y r))) ∙ p))
-      by false true false p q r = rw (p, q, r)
-      by false false v p q r = rw (p, q)
-
-and_true : (t : Bool) → t ≡ (t && true)
-and_true true = refl
-and_true false = refl
-
-and_assoc : (t u v : Bool) → ((t && u) && v) ≡ (t && (u && v))
-and_assoc true u v = refl
-and_assoc false u v = refl
-
-all_bytes : (a b : List ℕ) (d : ℕ) → length a ≡ length b → eqb (differing d a b) 0 ≡ (eqb d 0 && same a b)
-unfolding same
-all_bytes [] [] d l = and_true (eqb d 0)
-all_bytes [] (y ∷ ys) d l = absurd (omega (arith, l))
-all_bytes (x ∷ xs) [] d l = absurd (omega (arith, l))
-all_bytes (x ∷ xs) (y ∷ ys) d l =
-    all_bytes xs ys (bit_or d (bit_xor x y)) (omega (arith, l))
-    ∙ ap (λ (t : Bool). t && same xs ys) (one_more d x y)
-    ∙ and_assoc (eqb d 0) (eqb x y) (same xs ys)
-
-pub same_by_bits : (a b : List ℕ) → length a ≡ length b → (d : ℕ) → d ≡ differing 0 a b → eqb d 0 ≡ same a b
-same_by_bits a b l d e = ap (λ (n : ℕ). eqb n 0) e ∙ all_bytes a b 0 l
+      by : (t : Bool) → eqb d 0 ≡ t → eqb d 0 ≡ same a b
+      by true z =
+          let equal : a ≡ b =
+          ext_get_or 0 a b (omega arith) (λ k h. all_equal i (sym e ∙ eqb-true d 0 z) k (omega arith)) in
+          z ∙ sym ((same_exactly a b).1 equal)
+      by false z = z ∙ not_same a b (λ q. absurd (true≢false (sym (eq-eqb d 0 (e ∙ none_differ q i)) ∙ z)))

@@ -263,6 +263,10 @@ module _ (t : TagSession) (room : List ℕ) (a : Bool) (e : a ≡ is_tag_session
   unfolding read_tag_leaves read_tag_refusal
   left_none fails = rw (← e, not-true a fails)
 
+  pub checked_none : not a ≡ true → ◌≡◌ {A = Checking} (record { refusal = 3; yes = false; session = t }) (check_tag_answer t room)
+  unfolding check_tag_answer check_tag_refusal
+  checked_none fails = rw (← e, not-true a fails)
+
 -- c is the outer session with the digest of the inner one, of a record that the code found to be a tag session by the test a
 module _ (t : TagSession) (a : Bool) (e : a ≡ is_tag_session t) (holds : not a ≡ false) where
   pub is_tag : is_tag_session t ≡ true
@@ -296,59 +300,20 @@ module _ (t : TagSession) (a : Bool) (e : a ≡ is_tag_session t) (holds : not a
               ∙ (reads_room c room is (omega (arith, size, ltb-false (length room) (t.outer.bits / 8) p))).1
               ∙ ap₂ (λ (s : Session) (n : ℕ). session_digest s ++ drop n room) d size)
 
+    pub own_tag_within : (own : List ℕ) → length own ≡ 64 → c.bits / 8 ≤ length own
+    own_tag_within = digest_within c is
+
+    pub own_tag_count : (own : List ℕ) → length own ≡ 64 → c.bits / 8 ≡ length (take (c.bits / 8) own)
+    own_tag_count = digest_count c is
+
+    pub checked_closed : (own tag : List ℕ) → own ≡ read_leaves c (replicate 64 0) → (says : Bool) → says ≡ same (take (c.bits / 8) own) tag
+        → ◌≡◌ {A = Checking} (record { refusal = 0; yes = says; session = t }) (check_tag_answer t tag)
+    unfolding check_tag_answer check_tag_refusal session_tag
+    checked_closed own tag l says y =
+        rw (is_tag, y, ap (take (c.bits / 8)) l, digest_read c is, d)
+
 -- what `read` answers goes by the number alone
 pub handed_back : (t : TagSession) (room n : ℕ) → n ≡ read_tag_refusal t room
     → ◌≡◌ {A = TagAnswer} (record { refusal = n; session = t }) (read_tag_answer t room)
 unfolding read_tag_answer
 handed_back t room n e = ap (λ (k : ℕ). record { refusal = k; session = t }) e
-
--- ---- a tag that is read into 64 bytes, whose room is enough for any
-
-tag_most : (t : TagSession) → is_tag_session t ≡ true → t.outer.bits / 8 ≤ 64
-tag_most t is = let most = bits_most t.outer (tag_fits t is).outer_is in omega arith
-
-module _ (t : TagSession) (tag : List ℕ) where
-  -- nothing is refused but what is no tag session
-  pub check_refused : (p : RefusedTag) → tag_answer_of (Err p) ≡ read_tag_answer t 64 → checking_of (Err p) ≡ check_tag_answer t tag
-  unfolding read_tag_answer read_tag_refusal check_tag_answer check_tag_refusal
-  check_refused p d = by (is_tag_session t) refl
-    where
-      by : (b : Bool) → is_tag_session t ≡ b → checking_of (Err p) ≡ check_tag_answer t tag
-      by true is =
-          let z : number_of p.refusal ≡ 0 = ap (λ (x : TagAnswer). x.refusal) d ∙ rw (is, le-ltb 64 (t.outer.bits / 8) (tag_most t is)) refl in
-          absurd (some p.refusal z)
-      by false is =
-          let n : number_of p.refusal ≡ 3 = ap (λ (x : TagAnswer). x.refusal) d ∙ rw is refl in
-          rw (is, n, ap (λ (x : TagAnswer). x.session) d)
-
-  module _ (s : TagSession) (d : tag_answer_of (Ok s) ≡ read_tag_answer t 64) where
-    read_is : is_tag_session t ≡ true
-    unfolding read_tag_answer read_tag_refusal
-    read_is = by (is_tag_session t) refl
-      where
-        by : (b : Bool) → is_tag_session t ≡ b → is_tag_session t ≡ true
-        by true is = is
-        by false is = let z : ◌≡◌ {A = ℕ} 0 3 = ap (λ (x : TagAnswer). x.refusal) d ∙ rw is refl in absurd (omega arith)
-
-    module _ (own : List ℕ) (long : length own ≡ 64) where
-      pub own_tag_within : t.outer.bits / 8 ≤ length own
-      own_tag_within = omega (arith, tag_most t read_is)
-
-      pub own_tag_count : t.outer.bits / 8 ≡ length (take (t.outer.bits / 8) own)
-      own_tag_count = sym (length-take-le (t.outer.bits / 8) own own_tag_within)
-
-    own_tag_is : (own : List ℕ) → own ≡ read_tag_leaves t (replicate 64 0) → take (t.outer.bits / 8) own ≡ session_tag t
-    unfolding read_tag_leaves read_tag_refusal session_tag
-    own_tag_is own l =
-        let most = bits_most t.outer (tag_fits t read_is).outer_is in
-        let bits = closed_bits t read_is in
-        let left : own ≡ session_digest (closed_by t) ++ drop (t.outer.bits / 8) (replicate 64 0) =
-        l ∙ rw (read_is, le-ltb 64 (t.outer.bits / 8) (tag_most t read_is)) refl in
-        ap (take (t.outer.bits / 8)) left
-        ∙ take_at (session_digest (closed_by t)) _ (t.outer.bits / 8)
-        (session_digest_long (closed_by t) (omega arith) ∙ ap (λ (n : ℕ). n / 8) bits)
-
-    pub checked_own : (own : List ℕ) → own ≡ read_tag_leaves t (replicate 64 0) → (says : Bool) → says ≡ same (take (t.outer.bits / 8) own) tag
-        → ◌≡◌ {A = Checking} (record { refusal = 0; yes = says; session = t }) (check_tag_answer t tag)
-    unfolding check_tag_answer check_tag_refusal
-    checked_own own l says y = rw (read_is, y, own_tag_is own l)

@@ -2,8 +2,8 @@
  *
  *     cc -std=gnu99 -O2 -I include tests/taken_stack.c target/native/libbahmorist.a -o target/taken_stack && target/taken_stack
  *
- * Prints two numbers: the most that a call which makes or checks a tag has written to, and the most of any other call. What the caller's own frame and
- * the C library's memcpy and memset take is among them. */
+ * Prints two numbers: the most that a call which makes or checks a tag has written to, and the most of any other call. What the caller takes, as a call
+ * that does nothing shows it, is left out; what the C library's memcpy and memset take is not. */
 #define _XOPEN_SOURCE 700
 #include "bahmorist.h"
 #include <stdio.h>
@@ -16,6 +16,7 @@ static uint8_t square[256], chaining[128], out[BAHMORIST_MOST_DIGEST_BYTES], roo
 static uint8_t yes, kind, answers;
 static uint64_t place, count;
 
+static void nothing(void) { answers |= bahmorist_version() == 0; }
 static void make(void) { answers |= bahmorist_hmac(512, salt, 16, key, 300, message, 300, out, 64); }
 static void make_short(void) { answers |= bahmorist_hmac(256, salt, 16, key, 32, message, 300, out, 64); }
 static void check(void) { answers |= bahmorist_hmac_check(512, salt, 16, key, 300, message, 300, out, 64, &yes); }
@@ -56,9 +57,9 @@ static size_t taken(void (*call)(void))
 
 static size_t most(void (*const *calls)(void), size_t n)
 {
-    size_t found = 0;
+    size_t found = 0, own = taken(nothing);
     for (size_t i = 0; i < n; i++) {
-        size_t one = taken(calls[i]);
+        size_t one = taken(calls[i]) - own;
         found = found < one ? one : found;
     }
     return found;

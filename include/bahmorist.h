@@ -57,7 +57,8 @@
 #define BAHMORIST_MOST_DIGEST_BYTES 64
 #define BAHMORIST_MOST_TABLE_BYTES 4096
 
-/* What is wiped after a call: more than any takes. bahmorist_hmac takes the most, 16,880 bytes in the archive for x86-64. */
+/* What is wiped after a call: more than any takes. bahmorist_hmac_check and bahmorist_hmac_verify take the most, 16,896 bytes
+ * in the archive for x86-64. */
 #define BAHMORIST_MOST_STACK 18432
 
 /* Why a call was refused. No function here takes a session, so that 3 and 16, which are for those that do, are left out, nor a node's address as a

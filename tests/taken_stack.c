@@ -6,9 +6,8 @@
  * that does nothing shows it, is left out; what the C library's memcpy and memset take is not. */
 #define _XOPEN_SOURCE 700
 #include "bahmorist.h"
+#include "painted_stack.h"
 #include <stdio.h>
-#include <string.h>
-#include <ucontext.h>
 
 static const uint8_t salt[BAHMORIST_SALT_BYTES] = {0};
 static const uint8_t key[300] = {1}, message[300] = {2}, table[] = {1, 0xa2, 0, 0, 0, 0, 7, 2, 0, 0x3c};
@@ -36,20 +35,11 @@ static void read_at(void) { answers |= bahmorist_read_at(table, sizeof table, 7,
 static void counted(void) { answers |= bahmorist_count(table, sizeof table, &count, &place); }
 static void write_at(void) { answers |= bahmorist_write_at(room, sizeof room, 0, 5, message, 32, &place); }
 
-static uint8_t stack[1 << 18];
-static ucontext_t caller, called;
-
 static size_t taken(void (*call)(void))
 {
     size_t untouched = 0;
-    memset(stack, 0xa5, sizeof stack);
-    getcontext(&called);
-    called.uc_stack.ss_sp = stack;
-    called.uc_stack.ss_size = sizeof stack;
-    called.uc_link = &caller;
-    makecontext(&called, call, 0);
-    swapcontext(&caller, &called);
-    while (untouched < sizeof stack && stack[untouched] == 0xa5) {
+    on_painted_stack(call);
+    while (untouched < sizeof stack && stack[untouched] == PAINT) {
         untouched++;
     }
     return sizeof stack - untouched;

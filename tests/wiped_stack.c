@@ -9,17 +9,14 @@
 #define _XOPEN_SOURCE 700
 #include "bahmorist.h"
 #include RECIPE
+#include "painted_stack.h"
 #include <stdio.h>
-#include <string.h>
-#include <ucontext.h>
 
 static const uint8_t salt[BAHMORIST_SALT_BYTES] = {0};
 static const uint8_t key[32] = {0xd1, 0x5c, 0x09, 0xe7, 0x33, 0x8a, 0x60, 0xbf, 0x12, 0x4d, 0x97, 0xc8, 0x2e, 0x71, 0xa6, 0x05};
 static const uint8_t message[] = "join a20000008";
 static const uint8_t forged[32] = {0};
 
-static uint8_t stack[1 << 18];
-static ucontext_t caller, called;
 static uint8_t answer;
 
 static void verify(void)
@@ -36,13 +33,7 @@ static void verify_and_wipe(void)
 /* Whether the stack holds these bytes after the work was done on it. */
 static int holds(void (*work)(void), const uint8_t *bytes, size_t count)
 {
-    memset(stack, 0xa5, sizeof stack);
-    getcontext(&called);
-    called.uc_stack.ss_sp = stack;
-    called.uc_stack.ss_size = sizeof stack;
-    called.uc_link = &caller;
-    makecontext(&called, work, 0);
-    swapcontext(&caller, &called);
+    on_painted_stack(work);
     for (size_t place = 0; place + count <= sizeof stack; place++) {
         if (memcmp(stack + place, bytes, count) == 0) {
             return 1;
